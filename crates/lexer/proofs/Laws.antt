@@ -1,0 +1,6 @@
+-- Laws of the lexical rules that belong to no one function of the code.
+pub mod Computed
+pub mod Classes
+pub mod Fronts
+pub mod Runs
+pub mod Words

@@ -1,0 +1,39 @@
+-- What the class of a byte tells of the tests that the lexical rules ask, each by one computed test over all bytes.
+-- Assumes nothing.
+use Prim.Native.Nat.{ℕ, _<_}
+use mathlib.Core.Path.{_≡_, refl}
+use mathlib.Core.Bool.{Bool, true, false}
+use lib.Dec.{T, eqb, leb}
+use Rattle.lexer.specs.Tests.{and, or, between}
+use Rattle.lexer.specs.Bytes.{isDigit, isLetter, isSpace, isWordByte}
+use Rattle.lexer.specs.Leaves.{classOf}
+use Rattle.lexer.proofs.Laws.Computed.{all, all-at}
+
+-- whether two tests agree
+agree : Bool → Bool → Bool
+agree true b = b
+agree false true = false
+agree false false = true
+
+agreed : (a b : Bool) → T (agree a b) → a ≡ b
+unfolding agree
+agreed true true t = refl
+agreed true false t = absurd t
+agreed false true t = absurd t
+agreed false false t = refl
+
+pub class-digit : (b : ℕ) → b < 256 → eqb (classOf b) 0 ≡ isDigit b
+unfolding agree classOf and or between isDigit isLetter isSpace
+class-digit b h = agreed _ _ (all-at (λ b. agree (eqb (classOf b) 0) (isDigit b)) 256 tt b h)
+
+pub class-letter : (b : ℕ) → b < 256 → eqb (classOf b) 1 ≡ isLetter b
+unfolding agree classOf and or between isDigit isLetter isSpace
+class-letter b h = agreed _ _ (all-at (λ b. agree (eqb (classOf b) 1) (isLetter b)) 256 tt b h)
+
+pub class-space : (b : ℕ) → b < 256 → eqb (classOf b) 2 ≡ isSpace b
+unfolding agree classOf and or between isDigit isLetter isSpace
+class-space b h = agreed _ _ (all-at (λ b. agree (eqb (classOf b) 2) (isSpace b)) 256 tt b h)
+
+pub class-word : (b : ℕ) → b < 256 → leb (classOf b) 1 ≡ isWordByte b
+unfolding agree classOf and or between isDigit isLetter isSpace isWordByte
+class-word b h = agreed _ _ (all-at (λ b. agree (leb (classOf b) 1) (isWordByte b)) 256 tt b h)

@@ -1,0 +1,35 @@
+-- The first bytes of a list from a place on. Assumes nothing.
+use Prim.Native.Nat.{ℕ, suc, _+_, _≤_, _<_}
+use mathlib.Core.Path.{_≡_, refl}
+use mathlib.Core.List.{List, [], _∷_}
+use lib.ListN.{length, drop, getD, drop-of-length-le}
+use lib.Seq.{drop-cons}
+use native.Mathlib.Numerals.{add-one}
+use native.Mathlib.Nat.{add-assoc}
+use native.Mathlib.Omega.{arith}
+
+module _ (s : List ℕ) (at : ℕ) where
+  pub front-none : length s ≤ at → drop at s ≡ []
+  front-none h = drop-of-length-le s h
+
+  pub front-one : at < length s → drop at s ≡ getD s at 0 ∷ drop (at + 1) s
+  front-one h = rw add-one (drop-cons s at 0 h)
+
+  pub front-last : at < length s → length s ≤ at + 1 → drop at s ≡ getD s at 0 ∷ []
+  front-last h e = rw (front-one h) (rw (drop-of-length-le s e))
+
+module _ (s : List ℕ) (at : ℕ) where
+  pub front-two : at + 1 < length s → drop at s ≡ getD s at 0 ∷ getD s (at + 1) 0 ∷ drop (at + 2) s
+  front-two h =
+      let below : at < length s = omega arith in
+      rw (front-one s at below, front-one s (at + 1) h, add-assoc)
+
+  pub front-last-two : at + 1 < length s → length s ≤ at + 2 → drop at s ≡ getD s at 0 ∷ getD s (at + 1) 0 ∷ []
+  front-last-two h e = rw (front-two h) (rw (drop-of-length-le s e))
+
+module _ (s : List ℕ) (at : ℕ) where
+  pub front-three : at + 2 < length s
+    → drop at s ≡ getD s at 0 ∷ getD s (at + 1) 0 ∷ getD s (at + 2) 0 ∷ drop (at + 3) s
+  front-three h =
+      let below : at + 1 < length s = omega arith in
+      rw (front-two s at below, front-one s (at + 2) h, add-assoc)

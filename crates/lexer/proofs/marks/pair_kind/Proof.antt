@@ -1,0 +1,79 @@
+-- `lexer::marks::pair_kind` meets its contract: the tests that led to each answer decide every comparison with a mark.
+-- Assumes nothing.
+use Prim.Native.Nat.{ℕ}
+use mathlib.Core.Path.{_≡_, _∙_, refl, sym}
+use mathlib.Core.Bool.{Bool, true, false}
+use lib.Dec.{eqb}
+use borrow.Author.Tests.{eqb-true, ne-eqb}
+use Rattle.lexer.specs.Tests.{and}
+use Rattle.lexer.specs.Spellings.{same, kindOf, commonMarks, shiftMarks}
+use Rattle.lexer.proofs.marks.pair_kind.Statement.{statement}
+use Rattle.lexer.proofs.marks.pair_kind.Tie as tie
+
+-- two different bytes are not both k
+apart : (k x y : ℕ) → (x ≡ y → ⊥) → and (eqb y k) (eqb x k) ≡ false
+unfolding and
+apart k x y h = cases (eqb y k) refl
+  where
+    cases : (t : Bool) → eqb y k ≡ t → and t (eqb x k) ≡ false
+    cases true e = ne-eqb x k (λ (q : x ≡ k). h (q ∙ sym (eqb-true y k e)))
+    cases false e = refl
+
+
+returns : tie.Need-returns
+unfolding and same kindOf commonMarks shiftMarks
+returns c = rw (c .before .if1 .taken, c .match .keys1)
+
+returns-2 : tie.Need-returns-2
+unfolding and same kindOf commonMarks shiftMarks
+returns-2 c = rw (c .before .if1 .taken, c .match .keys2)
+
+returns-3 : tie.Need-returns-3
+unfolding and same kindOf commonMarks shiftMarks
+returns-3 c = rw (c .before .if1 .taken, c .match .keys3)
+
+returns-4 : tie.Need-returns-4
+unfolding and same kindOf commonMarks shiftMarks
+returns-4 c = rw (c .before .if1 .taken, c .match .keys4)
+
+returns-5 : tie.Need-returns-5
+unfolding and same kindOf commonMarks shiftMarks
+returns-5 c = let r = c .match .rest in
+    rw (c .before .if1 .taken, ne-eqb _ _ (r .0 .0 .0 .1), ne-eqb _ _ (r .0 .0 .1), ne-eqb _ _ (r .0 .1), ne-eqb _ _ (r .1))
+
+returns-6 : tie.Need-returns-6
+unfolding and same kindOf commonMarks shiftMarks
+returns-6 c = rw (← c .before .if2 .taken, c .match2 .keys1)
+
+returns-7 : tie.Need-returns-7
+unfolding and same kindOf commonMarks shiftMarks
+returns-7 c = rw (← c .before .if2 .taken, c .match2 .keys2)
+
+returns-8 : tie.Need-returns-8
+unfolding and same kindOf commonMarks shiftMarks
+returns-8 c = rw (← c .before .if2 .taken, c .match2 .keys3)
+
+returns-9 : tie.Need-returns-9
+unfolding and same kindOf commonMarks shiftMarks
+returns-9 c = let r = c .match2 .rest in
+    rw (ne-eqb _ _ (c .before .before .if1 .left), ← c .before .if2 .taken, ne-eqb _ _ (r .0 .0 .1), ne-eqb _ _ (r .0 .1), ne-eqb _ _ (r .1))
+
+returns-10 : tie.Need-returns-10
+unfolding and same kindOf commonMarks shiftMarks
+returns-10 c = let a = c .before .before .args in
+    rw (ne-eqb _ _ (c .before .if1 .left), apart 63 (a .first) (a .second) (c .if2 .left), apart 60 (a .first) (a .second) (c .if2 .left), apart 62 (a .first) (a .second) (c .if2 .left))
+
+pub pair-kind-spec : {M : Type 1} → statement M
+pair-kind-spec =
+    tie.close
+    (tie.spec
+    returns
+    returns-2
+    returns-3
+    returns-4
+    returns-5
+    returns-6
+    returns-7
+    returns-8
+    returns-9
+    returns-10)

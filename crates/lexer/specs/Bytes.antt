@@ -1,0 +1,46 @@
+-- The classes of bytes that the lexical rules speak of, and how far a class runs.
+use Prim.Native.Nat.{ℕ, suc}
+use mathlib.Core.Bool.{Bool, not}
+use mathlib.Core.List.{List, [], _∷_}
+use lib.Dec.{eqb}
+use Rattle.lexer.specs.Tests.{or, between, pick}
+use Rattle.lexer.specs.declared.Class.{Class}
+use Rattle.lexer.specs.declared.Class.the-variants.{Space, Digit, Word, Line, Text}
+
+-- "Skipped: bytes 32, 9, 10, 13"
+unfoldable pub isSpace : ℕ → Bool
+isSpace b = or (eqb b 32) (or (eqb b 9) (or (eqb b 10) (eqb b 13)))
+
+unfoldable pub isDigit : ℕ → Bool
+isDigit b = between 0x30 0x39 b
+
+-- "an ASCII letter or `_`"
+unfoldable pub isLetter : ℕ → Bool
+isLetter b = or (between 0x41 0x5A b) (or (between 0x61 0x7A b) (eqb b 0x5F))
+
+-- "then letters, digits, `_`"
+unfoldable pub isWordByte : ℕ → Bool
+isWordByte b = or (isLetter b) (isDigit b)
+
+-- what a comment goes on over: "up to byte 10"
+unfoldable pub isInLine : ℕ → Bool
+isInLine b = not (eqb b 10)
+
+-- what a string goes on over: "to next backtick"
+unfoldable pub isInString : ℕ → Bool
+isInString b = not (eqb b 0x60)
+
+-- each class by its name
+abbrev pub member : Class → ℕ → Bool
+member Space = isSpace
+member Digit = isDigit
+member Word = isWordByte
+member Line = isInLine
+member Text = isInString
+
+-- how many bytes at the front pass a test, as many as possible
+unfoldable pub run : (ℕ → Bool) → List ℕ → ℕ
+run p [] = 0
+run p (b ∷ s) =
+    let n = run p s in
+    pick (p b) (suc n) 0

@@ -1,0 +1,13 @@
+-- The lexical rules of NURL, in the order of document 01's section "From bytes to tokens", and the token table.
+pub mod Tests
+pub mod Text
+pub mod Kinds
+pub mod Bytes
+pub mod Spellings
+pub mod Editions
+pub mod Words
+pub mod Numbers
+pub mod Lexemes
+pub mod Tokens
+pub mod Table
+pub mod Leaves

@@ -1,0 +1,63 @@
+-- Fixed spellings with their kinds: the words that are no IDENT, and the marks.
+use Prim.Native.Nat.{ℕ, zero, suc, max}
+use Prim.Native.String.{String}
+use mathlib.Core.Bool.{Bool, true, false}
+use mathlib.Core.List.{List, [], _∷_}
+use lib.Dec.{eqb}
+use lib.ListN.{length}
+use Rattle.lexer.specs.Tests.{and, pick}
+use Rattle.lexer.specs.Text.{bytes}
+use Rattle.lexer.specs.Kinds.{keyword, boolean, sizeof, dollar, ampersand, at, percent, colon, bar, equal, semicolon, tilde, leftBrace, rightBrace, leftParen, rightParen, leftBracket, rightBracket, bang, caret, backslash, question, dot, hash, star, plus, minus, slash, less, greater, equalEqual, bangEqual, lessEqual, greaterEqual, lessLess, greaterGreater, questionQuestion, arrow}
+
+pub record Spelling : Type 0 where
+  pub text : List ℕ
+  pub kind : ℕ
+
+infix 90 _is_
+
+unfoldable pub _is_ : String → ℕ → Spelling
+unfolding bytes
+s is k = record { text = bytes s; kind = k }
+
+-- whether two lists of bytes are the same
+unfoldable pub same : List ℕ → List ℕ → Bool
+same [] [] = true
+same [] (b ∷ t) = false
+same (a ∷ s) [] = false
+same (a ∷ s) (b ∷ t) = and (same s t) (eqb b a)
+
+-- the kind of exactly these bytes among some spellings, or 0
+unfoldable pub kindOf : List Spelling → List ℕ → ℕ
+kindOf [] s = 0
+kindOf (m ∷ ms) s = pick (same (m .text) s) (m .kind) (kindOf ms s)
+
+-- the length of the longest of some spellings
+unfoldable pub longest : List Spelling → ℕ
+longest [] = 0
+longest (m ∷ ms) = max (length (m .text)) (longest ms)
+
+-- "`i u f b s v` alone are type keywords, `T F` booleans, `Z` sizeof"
+unfoldable pub reserved : List Spelling
+unfolding _is_
+reserved =
+    "i" is keyword ∷ "u" is keyword ∷ "f" is keyword ∷ "b" is keyword ∷ "s" is keyword ∷ "v" is keyword ∷
+    "T" is boolean ∷ "F" is boolean ∷
+    "Z" is sizeof ∷
+    []
+
+-- the marks that every edition has
+unfoldable pub commonMarks : List Spelling
+unfolding _is_
+commonMarks =
+    "$" is dollar ∷ "&" is ampersand ∷ "@" is at ∷ "%" is percent ∷ ":" is colon ∷ "|" is bar ∷ "=" is equal ∷
+    ";" is semicolon ∷ "~" is tilde ∷ "{" is leftBrace ∷ "}" is rightBrace ∷ "(" is leftParen ∷ ")" is rightParen ∷
+    "[" is leftBracket ∷ "]" is rightBracket ∷ "!" is bang ∷ "^" is caret ∷ "\\" is backslash ∷ "?" is question ∷
+    "." is dot ∷ "#" is hash ∷ "*" is star ∷ "+" is plus ∷ "-" is minus ∷ "/" is slash ∷ "<" is less ∷ ">" is greater ∷
+    "==" is equalEqual ∷ "!=" is bangEqual ∷ "<=" is lessEqual ∷ ">=" is greaterEqual ∷ "??" is questionQuestion ∷
+    "→" is arrow ∷
+    []
+
+-- the marks of 1.7 that 1.1 does not have
+unfoldable pub shiftMarks : List Spelling
+unfolding _is_
+shiftMarks = "<<" is lessLess ∷ ">>" is greaterGreater ∷ []

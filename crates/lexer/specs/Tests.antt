@@ -1,0 +1,21 @@
+-- Tests and choices by a test, which the definitions of this crate are written with.
+use mathlib.Core.Bool.{Bool, true, false}
+use Prim.Native.Nat.{ℕ}
+use lib.Dec.{leb}
+
+unfoldable pub and : Bool → Bool → Bool
+and true b = b
+and false b = false
+
+unfoldable pub or : Bool → Bool → Bool
+or true b = true
+or false b = b
+
+-- the first value where the test holds, else the second
+abbrev pub pick {ℓ} : {A : Type ℓ} → Bool → A → A → A
+pick true a b = a
+pick false a b = b
+
+unfoldable pub between : ℕ → ℕ → ℕ → Bool
+unfolding and
+between low high n = and (leb low n) (leb n high)

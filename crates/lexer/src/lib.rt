@@ -1,0 +1,35 @@
+// From bytes to tokens: the tokeniser of NURL, proved to give exactly the tokens of the lexical rules in specs/.
+mod kinds;
+mod bytes;
+mod words;
+mod numbers;
+mod marks;
+
+// A class of bytes that a lexeme can go on over.
+pub enum Class {
+    Space,
+    Digit,
+    Word,
+    Line,
+    Text,
+}
+
+// What stands at a place of a source.
+pub enum Lexeme {
+    // Nothing: the source ends here.
+    End,
+    // So many bytes that make no token.
+    Skipped(usize),
+    // A token of this kind and length.
+    Token(u32, usize),
+    // A byte that begins no token, space or comment.
+    BadByte,
+    // A string that is not closed.
+    OpenString,
+}
+
+// The answer of a pass over a whole source: the number of its tokens, or a refusal's number and place.
+pub enum Scanned {
+    Tokens(usize),
+    Refused(u32, usize),
+}

@@ -1,0 +1,77 @@
+// Numbers: digits, a fraction, an exponent.
+use crate::bytes;
+use crate::kinds;
+use crate::Class;
+use crate::Lexeme;
+ghost use mathlib.Core.Path.{_≡_};
+ghost use Prim.Native.Nat.{_+_};
+ghost use lib.ListN.{drop};
+ghost use Rattle.lexer.specs.Numbers.{beginsWith, fraction, sign, exponent};
+ghost use Rattle.lexer.specs.Lexemes.{unsignedNumber};
+
+// Whether one of two bytes stands at `at`.
+pub fn begins_with(source: &[u8], at: usize, a: u8, b: u8) -> bool
+    ensures { λ r. ⌜ r ≡ beginsWith a b (drop at (now (source .entry))) ⌝ }
+{
+    if at < source.len() {
+        if source[at] == a {
+            return true;
+        }
+        return source[at] == b;
+    }
+    false
+}
+
+// Where the point and digits at `at` end, or `at` where not all of that is there.
+fn fraction_end(source: &[u8], at: usize) -> usize
+    ensures { λ r. ⌜ r ≡ at + fraction (drop at (now (source .entry))) ⌝ }
+{
+    if begins_with(source, at, b'.', b'.') {
+        let from = at + 1;
+        let end = bytes::run_end(source, from, Class::Digit);
+        if from < end {
+            return end;
+        }
+    }
+    at
+}
+
+// Where the optional sign at `at` ends.
+fn sign_end(source: &[u8], at: usize) -> usize
+    ensures { λ r. ⌜ r ≡ at + sign (drop at (now (source .entry))) ⌝ }
+{
+    if begins_with(source, at, b'+', b'-') {
+        return at + 1;
+    }
+    at
+}
+
+// Where the exponent at `at` ends, or `at` where not all of one is there.
+fn exponent_end(source: &[u8], at: usize) -> usize
+    ensures { λ r. ⌜ r ≡ at + exponent (drop at (now (source .entry))) ⌝ }
+{
+    if begins_with(source, at, b'e', b'E') {
+        let from = sign_end(source, at + 1);
+        let end = bytes::run_end(source, from, Class::Digit);
+        if from < end {
+            return end;
+        }
+    }
+    at
+}
+
+// The number without a minus at `at`.
+pub fn unsigned_at(source: &[u8], at: usize) -> Lexeme
+    ensures { λ r. ⌜ r ≡ unsignedNumber (drop at (now (source .entry))) ⌝ }
+{
+    let whole = bytes::run_end(source, at, Class::Digit);
+    if whole == at {
+        return Lexeme::BadByte;
+    }
+    let point = fraction_end(source, whole);
+    if point == whole {
+        return Lexeme::Token(kinds::INT, whole - at);
+    }
+    let end = exponent_end(source, point);
+    Lexeme::Token(kinds::FLOAT, end - at)
+}

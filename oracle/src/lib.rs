@@ -1,0 +1,18 @@
+//! An independent, slow and plain reader for NURL source (grammar 1.7), used
+//! to compare another reader with. The command line is in `main.rs`.
+
+pub mod answer;
+pub mod cases;
+pub mod declarations;
+pub mod desk;
+pub mod expressions;
+pub mod kinds;
+pub mod lexical;
+pub mod names;
+pub mod parser;
+pub mod random;
+pub mod scripts;
+pub mod settings;
+pub mod statements;
+pub mod tokens;
+pub mod types;

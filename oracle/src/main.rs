@@ -1,0 +1,61 @@
+//! The command line: the case files of the lexical layer and their coverage,
+//! the tokens of a file, and a file's answer as the desk program prints it.
+
+use oracle::desk::{desk_output, line_of};
+use oracle::lexical;
+use oracle::settings::{SOURCE_LIMIT, TOKEN_WIDTH};
+use oracle::tokens::{tokenize, Tokenized};
+use std::io::Write;
+use std::process::ExitCode;
+
+const USAGE: &str = "usage: oracle lexical stdin|stdout|coverage
+       oracle tokens FILE
+       oracle read FILE";
+
+fn main() -> ExitCode {
+    let arguments: Vec<String> = std::env::args().skip(1).collect();
+    let words: Vec<&str> = arguments.iter().map(String::as_str).collect();
+    let output = match words[..] {
+        ["lexical", "stdin"] => Ok(lexical::input_file()),
+        ["lexical", "stdout"] => Ok(lexical::output_file().into_bytes()),
+        ["lexical", "coverage"] => Ok(lexical::coverage_text().into_bytes()),
+        ["tokens", file] => with_file(file, tokens_text),
+        ["read", file] => with_file(file, desk_output),
+        _ => Err(USAGE.to_string()),
+    };
+    let written = output.and_then(|bytes| {
+        let result = std::io::stdout().write_all(&bytes);
+        result.map_err(|error| error.to_string())
+    });
+    match written {
+        Ok(()) => ExitCode::SUCCESS,
+        Err(message) => {
+            eprintln!("{message}");
+            ExitCode::from(2)
+        }
+    }
+}
+
+/// What a function says about the bytes of a file.
+fn with_file(file: &str, text_of: fn(&[u8]) -> String) -> Result<Vec<u8>, String> {
+    match std::fs::read(file) {
+        Ok(source) => Ok(text_of(&source).into_bytes()),
+        Err(error) => Err(format!("{file}: {error}")),
+    }
+}
+
+/// The token count and the token rows of a source, or its refusal.
+fn tokens_text(source: &[u8]) -> String {
+    // No source within the limit has more tokens than bytes.
+    let mut table = vec![0; source.len().min(SOURCE_LIMIT) * TOKEN_WIDTH];
+    match tokenize(source, &mut table) {
+        Tokenized::Refused(number, place) => format!("refused {number} {place}\n"),
+        Tokenized::Tokens(count) => {
+            let mut text = format!("tokens {count}\n");
+            for row in table.chunks(TOKEN_WIDTH).take(count as usize) {
+                text.push_str(&line_of(row));
+            }
+            text
+        }
+    }
+}
