@@ -1,6 +1,9 @@
 -- Laws of the lexical rules that belong to no one function of the code.
+pub mod Tests
 pub mod Computed
 pub mod Classes
 pub mod Fronts
 pub mod Runs
 pub mod Words
+pub mod Numbers
+pub mod Marks

@@ -1,12 +1,8 @@
--- What the tokeniser's two byte tables hold. Nothing but the tokeniser's own leaves speaks of it.
+-- The class of a byte, which the tokeniser looks up in a table. Nothing but the tokeniser's own leaves speaks of it.
 use Prim.Native.Nat.{ℕ}
-use mathlib.Core.List.{[], _∷_}
 use lib.Dec.{eqb}
 use Rattle.lexer.specs.Tests.{pick}
 use Rattle.lexer.specs.Bytes.{isDigit, isLetter, isSpace}
-use Rattle.lexer.specs.Spellings.{kindOf}
-use Rattle.lexer.specs.Editions.{edition17}
-use Rattle.lexer.specs.Words.{wordKind}
 
 -- the class of a byte by what a lexeme that begins with it is: a number, a word, spaces, or one of three bytes that
 -- begin more than one thing, `-`, `/` and the backtick; 6 for every other byte
@@ -18,7 +14,3 @@ classOf b =
     (pick (eqb b 0x2D) 3
     (pick (eqb b 0x2F) 4
     (pick (eqb b 0x60) 5 6)))))
-
--- the kind of the word or the mark that one byte spells, or 0
-unfoldable pub kindAlone : ℕ → ℕ
-kindAlone b = pick (isLetter b) (wordKind (b ∷ [])) (kindOf (edition17 .marks) (b ∷ []))

@@ -2,10 +2,13 @@
 use crate::Class;
 ghost use mathlib.Core.Path.{_≡_};
 ghost use Prim.Native.Nat.{_+_};
-ghost use mathlib.Core.List.{List, [], _∷_};
+ghost use mathlib.Core.List.{[], _∷_};
 ghost use lib.ListN.{drop};
 ghost use Rattle.lexer.specs.Bytes.{member, run};
-ghost use Rattle.lexer.specs.Leaves.{classOf, kindAlone};
+ghost use Rattle.lexer.specs.Spellings.{kindOf};
+ghost use Rattle.lexer.specs.Editions.{edition17};
+ghost use Rattle.lexer.specs.Words.{wordKind};
+ghost use Rattle.lexer.specs.Leaves.{classOf};
 
 pub const DIGIT: u8 = 0;
 pub const LETTER: u8 = 1;
@@ -26,12 +29,24 @@ const CLASSES: [u8; 256] = [
     6, 6, 6, 6, 6, 6, 6, 6, 6, 6, 6, 6, 6, 6, 6, 6, 6, 6, 6, 6, 6, 6, 6, 6, 6, 6, 6, 6, 6, 6, 6, 6,
 ];
 
-// The kind of the word or mark that each byte alone spells, or 0.
-const KINDS: [u32; 256] = [
+// The kind of the word that each byte alone is, were it a letter.
+const WORD_KINDS: [u32; 256] = [
+    1, 1, 1, 1, 1, 1, 1, 1, 1, 1, 1, 1, 1, 1, 1, 1, 1, 1, 1, 1, 1, 1, 1, 1, 1, 1, 1, 1, 1, 1, 1, 1,
+    1, 1, 1, 1, 1, 1, 1, 1, 1, 1, 1, 1, 1, 1, 1, 1, 1, 1, 1, 1, 1, 1, 1, 1, 1, 1, 1, 1, 1, 1, 1, 1,
+    1, 1, 1, 1, 1, 1, 3, 1, 1, 1, 1, 1, 1, 1, 1, 1, 1, 1, 1, 1, 3, 1, 1, 1, 1, 1, 4, 1, 1, 1, 1, 1,
+    1, 1, 2, 1, 1, 1, 2, 1, 1, 2, 1, 1, 1, 1, 1, 1, 1, 1, 1, 2, 1, 2, 2, 1, 1, 1, 1, 1, 1, 1, 1, 1,
+    1, 1, 1, 1, 1, 1, 1, 1, 1, 1, 1, 1, 1, 1, 1, 1, 1, 1, 1, 1, 1, 1, 1, 1, 1, 1, 1, 1, 1, 1, 1, 1,
+    1, 1, 1, 1, 1, 1, 1, 1, 1, 1, 1, 1, 1, 1, 1, 1, 1, 1, 1, 1, 1, 1, 1, 1, 1, 1, 1, 1, 1, 1, 1, 1,
+    1, 1, 1, 1, 1, 1, 1, 1, 1, 1, 1, 1, 1, 1, 1, 1, 1, 1, 1, 1, 1, 1, 1, 1, 1, 1, 1, 1, 1, 1, 1, 1,
+    1, 1, 1, 1, 1, 1, 1, 1, 1, 1, 1, 1, 1, 1, 1, 1, 1, 1, 1, 1, 1, 1, 1, 1, 1, 1, 1, 1, 1, 1, 1, 1,
+];
+
+// The kind of the mark that each byte alone is, or 0.
+const MARK_KINDS: [u32; 256] = [
     0, 0, 0, 0, 0, 0, 0, 0, 0, 0, 0, 0, 0, 0, 0, 0, 0, 0, 0, 0, 0, 0, 0, 0, 0, 0, 0, 0, 0, 0, 0, 0,
     0, 23, 0, 28, 8, 11, 9, 0, 19, 20, 29, 30, 0, 31, 27, 32, 0, 0, 0, 0, 0, 0, 0, 0, 0, 0, 12, 15, 33, 14, 34, 26,
-    10, 1, 1, 1, 1, 1, 3, 1, 1, 1, 1, 1, 1, 1, 1, 1, 1, 1, 1, 1, 3, 1, 1, 1, 1, 1, 4, 21, 25, 22, 24, 1,
-    0, 1, 2, 1, 1, 1, 2, 1, 1, 2, 1, 1, 1, 1, 1, 1, 1, 1, 1, 2, 1, 2, 2, 1, 1, 1, 1, 17, 13, 18, 16, 0,
+    10, 0, 0, 0, 0, 0, 0, 0, 0, 0, 0, 0, 0, 0, 0, 0, 0, 0, 0, 0, 0, 0, 0, 0, 0, 0, 0, 21, 25, 22, 24, 0,
+    0, 0, 0, 0, 0, 0, 0, 0, 0, 0, 0, 0, 0, 0, 0, 0, 0, 0, 0, 0, 0, 0, 0, 0, 0, 0, 0, 17, 13, 18, 16, 0,
     0, 0, 0, 0, 0, 0, 0, 0, 0, 0, 0, 0, 0, 0, 0, 0, 0, 0, 0, 0, 0, 0, 0, 0, 0, 0, 0, 0, 0, 0, 0, 0,
     0, 0, 0, 0, 0, 0, 0, 0, 0, 0, 0, 0, 0, 0, 0, 0, 0, 0, 0, 0, 0, 0, 0, 0, 0, 0, 0, 0, 0, 0, 0, 0,
     0, 0, 0, 0, 0, 0, 0, 0, 0, 0, 0, 0, 0, 0, 0, 0, 0, 0, 0, 0, 0, 0, 0, 0, 0, 0, 0, 0, 0, 0, 0, 0,
@@ -44,10 +59,18 @@ pub fn class_of(b: u8) -> u8
     CLASSES[b as usize]
 }
 
-pub fn kind_alone(b: u8) -> u32
-    ensures { λ r. ⌜ r ≡ kindAlone b ⌝ }
+// The kind of the word of one letter.
+pub fn letter_kind(b: u8) -> u32
+    ensures { λ r. ⌜ r ≡ wordKind (b ∷ []) ⌝ }
 {
-    KINDS[b as usize]
+    WORD_KINDS[b as usize]
+}
+
+// The kind of the mark of one byte, or 0.
+pub fn mark_kind(b: u8) -> u32
+    ensures { λ r. ⌜ r ≡ kindOf (edition17 .marks) (b ∷ []) ⌝ }
+{
+    MARK_KINDS[b as usize]
 }
 
 fn belongs(class: Class, b: u8) -> bool

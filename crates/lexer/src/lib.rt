@@ -4,6 +4,7 @@ mod bytes;
 mod words;
 mod numbers;
 mod marks;
+mod lexemes;
 
 // A class of bytes that a lexeme can go on over.
 pub enum Class {

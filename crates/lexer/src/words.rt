@@ -4,8 +4,9 @@ use crate::kinds;
 use crate::Class;
 use crate::Lexeme;
 ghost use mathlib.Core.Path.{_≡_};
-ghost use Prim.Native.Nat.{_+_};
+ghost use Prim.Native.Nat.{_+_, _-_, _≤_};
 ghost use lib.ListN.{drop};
+ghost use Rattle.lexer.specs.Kinds.{ident};
 ghost use Rattle.lexer.specs.Words.{wordLength, identLength, twoColons, joins};
 ghost use Rattle.lexer.specs.Lexemes.{word};
 
@@ -27,7 +28,7 @@ fn ident_end(source: &[u8], at: usize) -> usize
 {
     let end = word_end(source, at);
     if end - at == 1 {
-        if bytes::kind_alone(source[at]) == kinds::IDENT {
+        if bytes::letter_kind(source[at]) == kinds::IDENT {
             return end;
         }
         return at;
@@ -65,21 +66,29 @@ fn joins_end(source: &[u8], end: usize) -> usize
     i
 }
 
+// The IDENT from `at` to `end` with all that joins it.
+fn joined(source: &[u8], at: usize, end: usize) -> Lexeme
+    requires { ⌜ at ≤ end ⌝ }
+    ensures { λ r. ⌜ r ≡ Lexeme.Token ident (end - at + joins (drop end (now (source .entry)))) ⌝ }
+{
+    let last = joins_end(source, end);
+    Lexeme::Token(kinds::IDENT, last - at)
+}
+
 // The word at `at`.
 pub fn word_at(source: &[u8], at: usize) -> Lexeme
     ensures { λ r. ⌜ r ≡ word (drop at (now (source .entry))) ⌝ }
 {
     let end = word_end(source, at);
-    let len = end - at;
-    if len == 0 {
+    if end == at {
         return Lexeme::BadByte;
     }
-    if len == 1 {
-        let kind = bytes::kind_alone(source[at]);
+    if end - at == 1 {
+        let kind = bytes::letter_kind(source[at]);
         if kind != kinds::IDENT {
-            return Lexeme::Token(kind, len);
+            return Lexeme::Token(kind, 1);
         }
+        return joined(source, at, end);
     }
-    let last = joins_end(source, end);
-    Lexeme::Token(kinds::IDENT, last - at)
+    joined(source, at, end)
 }

@@ -1,4 +1,4 @@
-//! Small helpers shared by the tests: readings with ample tables.
+//! Small functions shared by the tests: readings with ample tables.
 #![allow(dead_code)]
 
 use oracle::answer::{read, Answer};

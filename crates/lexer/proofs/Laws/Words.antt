@@ -4,16 +4,18 @@ use mathlib.Core.Path.{_≡_, refl, sym, _∙_, ap}
 use mathlib.Core.Bool.{Bool, true, false}
 use mathlib.Core.List.{List, [], _∷_}
 use native.Mathlib.Omega.{arith}
-use native.Mathlib.Nat.{not-suc-le-zero}
+use native.Mathlib.Nat.{not-suc-le-zero, add-assoc}
 use lib.Dec.{eqb, ltb}
-use lib.ListN.{length, take, drop, length-drop}
+use lib.ListN.{length, take, drop, getD, length-drop}
+use lib.Seq.{drop-drop}
 use borrow.Author.Tests.{lt-ltb}
 use Rattle.lexer.specs.Tests.{and, pick}
 use Rattle.lexer.specs.Kinds.{ident}
 use Rattle.lexer.specs.Bytes.{isLetter, isWordByte, run}
 use Rattle.lexer.specs.Spellings.{same, kindOf, reserved}
 use Rattle.lexer.specs.Words.{wordLength, orIdent, wordKind, identLength, twoColons, joinsWithin, joins}
-use Rattle.lexer.specs.Leaves.{kindAlone}
+use Rattle.lexer.proofs.Laws.Tests.{and-false}
+use Rattle.lexer.proofs.Laws.Fronts.{front-one}
 use Rattle.lexer.proofs.Laws.Runs.{run-le}
 
 pub word-letter : (b : ℕ) (s : List ℕ) → isLetter b ≡ true → wordLength (b ∷ s) ≡ suc (run isWordByte s)
@@ -44,11 +46,7 @@ word-letter-by b s false h l = let z = word-none b s h in absurd (omega arith)
 pub begins-with-letter : (b : ℕ) (s : List ℕ) → 0 < wordLength (b ∷ s) → isLetter b ≡ true
 begins-with-letter b s l = word-letter-by b s (isLetter b) refl l
 
--- the kind of a word of one letter is in the tokeniser's table, a longer word is an IDENT
-pub kind-letter : (b : ℕ) → isLetter b ≡ true → kindAlone b ≡ wordKind (b ∷ [])
-unfolding kindAlone
-kind-letter b h = rw h
-
+-- a word of two letters or more is an IDENT
 pub kind-long : (a b : ℕ) (w : List ℕ) → wordKind (a ∷ b ∷ w) ≡ ident
 unfolding wordKind kindOf reserved same and orIdent
 kind-long a b w = refl
@@ -66,13 +64,10 @@ pub ident-other : (s : List ℕ) → (wordLength s ≡ 1 → ⊥) → identLengt
 unfolding identLength
 ident-other s one = rw (kind-other (wordLength s) s (word-le s) one)
 
-module _ (b : ℕ) (s : List ℕ) (one : wordLength (b ∷ s) ≡ 1) where
-  kind-one : wordKind (take (wordLength (b ∷ s)) (b ∷ s)) ≡ kindAlone b
-  kind-one = rw one (sym (kind-letter b (begins-with-letter b s (omega arith))))
-
-  pub ident-one : identLength (b ∷ s) ≡ pick (eqb (kindAlone b) ident) 1 0
-  unfolding identLength
-  ident-one = rw (kind-one, one)
+-- the same where n is 1
+pub ident-one : (b : ℕ) (s : List ℕ) → wordLength (b ∷ s) ≡ 1 → identLength (b ∷ s) ≡ pick (eqb (wordKind (b ∷ [])) ident) 1 0
+unfolding identLength
+ident-one b s one = rw one
 
 -- more joins allowed than there are bytes change nothing
 joins-enough : (m k : ℕ) (s : List ℕ) → length s ≤ m → length s ≤ k → joinsWithin m s ≡ joinsWithin k s
@@ -86,3 +81,65 @@ joins-enough (suc m) (suc k) s hm hk =
     let n = identLength (drop 2 s) in
     let e = joins-enough m k (drop (2 + n) s) (simp length-drop (omega arith)) (simp length-drop (omega arith)) in
     ap (λ (r : ℕ). pick (and (twoColons s) (ltb 0 n)) (2 + n + r) 0) e
+
+-- one join more allowed than there are bytes
+joins-opened : (s : List ℕ) → joins s ≡ joinsWithin (suc (length s)) s
+unfolding joins
+joins-opened s = joins-enough (length s) (suc (length s)) s (omega arith) (omega arith)
+
+module _ (s : List ℕ) where
+  -- how the joins are found, step by step
+  pub joins-none : twoColons s ≡ false → joins s ≡ 0
+  unfolding joinsWithin and
+  joins-none h = joins-opened s ∙ rw h
+
+  pub joins-lost : identLength (drop 2 s) ≡ 0 → joins s ≡ 0
+  unfolding joinsWithin
+  joins-lost h = joins-opened s ∙ rw (h, and-false)
+
+  pub joins-more : twoColons s ≡ true → 0 < identLength (drop 2 s)
+    → joins s ≡ 2 + identLength (drop 2 s) + joins (drop (2 + identLength (drop 2 s)) s)
+  unfolding joins joinsWithin and
+  joins-more h more =
+      let n = identLength (drop 2 s) in
+      let e = joins-enough (length s) (length (drop (2 + n) s)) (drop (2 + n) s) (simp length-drop (omega arith)) (omega arith) in
+      joins-opened s ∙ rw (h, lt-ltb 0 n more) (ap (λ (r : ℕ). 2 + n + r) e)
+
+module _ (s : List ℕ) (at : ℕ) (one : wordLength (drop at s) ≡ 1) where
+  pub one-inside : at < length s
+  one-inside =
+      let l = word-le (drop at s) in
+      let e = length-drop at s in
+      omega arith
+
+  pub ident-one-at : identLength (drop at s) ≡ pick (eqb (wordKind (getD s at 0 ∷ [])) ident) 1 0
+  ident-one-at =
+      let e = front-one s at one-inside in
+      rw e (ident-one _ _ (rw e at one))
+
+two-bytes : (t : List ℕ) → twoColons t ≡ true → 1 < length t
+unfolding twoColons
+two-bytes [] q = let z : _≡_ {A = ℕ} 0 1 = cc in absurd (omega arith)
+two-bytes (a ∷ []) q = let z : _≡_ {A = ℕ} 0 1 = cc in absurd (omega arith)
+two-bytes (a ∷ b ∷ t) q = omega arith
+
+-- the same at a place of a list
+module _ (s : List ℕ) (at : ℕ) where
+  pub colons-inside : twoColons (drop at s) ≡ true → at + 1 < length s
+  colons-inside h =
+      let l = two-bytes (drop at s) h in
+      let e = length-drop at s in
+      omega arith
+
+  pub joins-none-at : twoColons (drop at s) ≡ false → joins (drop at s) ≡ 0
+  joins-none-at h = joins-none (drop at s) h
+
+  pub joins-lost-at : identLength (drop (at + 2) s) ≡ 0 → joins (drop at s) ≡ 0
+  joins-lost-at h = joins-lost (drop at s) (rw drop-drop h)
+
+  pub joins-more-at : twoColons (drop at s) ≡ true → 0 < identLength (drop (at + 2) s)
+    → at + joins (drop at s)
+    ≡ at + 2 + identLength (drop (at + 2) s) + joins (drop (at + 2 + identLength (drop (at + 2) s)) s)
+  joins-more-at h more = 
+      let n = identLength (drop (at + 2) s) in
+      rw (joins-more (drop at s) h (rw drop-drop more), drop-drop 2 at s, drop-drop (2 + n) at s, ← add-assoc at 2 n) (omega arith)

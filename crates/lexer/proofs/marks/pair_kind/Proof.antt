@@ -1,24 +1,11 @@
 -- `lexer::marks::pair_kind` meets its contract: the tests that led to each answer decide every comparison with a mark.
 -- Assumes nothing.
-use Prim.Native.Nat.{ℕ}
-use mathlib.Core.Path.{_≡_, _∙_, refl, sym}
-use mathlib.Core.Bool.{Bool, true, false}
-use lib.Dec.{eqb}
-use borrow.Author.Tests.{eqb-true, ne-eqb}
+use borrow.Author.Tests.{ne-eqb}
 use Rattle.lexer.specs.Tests.{and}
+use Rattle.lexer.proofs.Laws.Tests.{apart}
 use Rattle.lexer.specs.Spellings.{same, kindOf, commonMarks, shiftMarks}
 use Rattle.lexer.proofs.marks.pair_kind.Statement.{statement}
 use Rattle.lexer.proofs.marks.pair_kind.Tie as tie
-
--- two different bytes are not both k
-apart : (k x y : ℕ) → (x ≡ y → ⊥) → and (eqb y k) (eqb x k) ≡ false
-unfolding and
-apart k x y h = cases (eqb y k) refl
-  where
-    cases : (t : Bool) → eqb y k ≡ t → and t (eqb x k) ≡ false
-    cases true e = ne-eqb x k (λ (q : x ≡ k). h (q ∙ sym (eqb-true y k e)))
-    cases false e = refl
-
 
 returns : tie.Need-returns
 unfolding and same kindOf commonMarks shiftMarks

@@ -1,18 +1,11 @@
 -- `lexer::marks::triple_kind` meets its contract: the three tests are those of the one mark of three bytes.
 -- Assumes nothing.
-use mathlib.Core.Path.{_≡_, refl}
-use mathlib.Core.Bool.{Bool, true, false}
 use borrow.Author.Tests.{ne-eqb}
 use Rattle.lexer.specs.Tests.{and}
+use Rattle.lexer.proofs.Laws.Tests.{and-false}
 use Rattle.lexer.specs.Spellings.{same, kindOf, commonMarks, shiftMarks}
 use Rattle.lexer.proofs.marks.triple_kind.Statement.{statement}
 use Rattle.lexer.proofs.marks.triple_kind.Tie as tie
-
-and-false : (t : Bool) → and t false ≡ false
-unfolding and
-and-false true = refl
-and-false false = refl
-
 
 returns : tie.Need-returns
 unfolding and same kindOf commonMarks shiftMarks

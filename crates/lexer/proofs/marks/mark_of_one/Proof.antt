@@ -1,0 +1,18 @@
+-- `lexer::marks::mark_of_one` meets its contract. Assumes nothing.
+use mathlib.Core.Path.{_∙_, sym}
+use Rattle.lexer.proofs.Laws.Marks.{one-found, one-lost}
+use borrow.Author.Needs.{needs}
+use Rattle.lexer.proofs.marks.mark_of_one.Statement.{statement}
+use Rattle.lexer.proofs.marks.mark_of_one.Tie as tie
+
+mark-kind-requires : tie.Need-mark-kind-requires
+mark-kind-requires c κs = search needs
+
+returns : tie.Need-returns
+returns c = sym (one-lost _ (sym (c .before .mark-kind .ensures) ∙ c .if1 .taken))
+
+returns-2 : tie.Need-returns-2
+returns-2 c = rw (c .before .mark-kind .ensures) (sym (one-found _ (λ e. c .if1 .left (c .before .mark-kind .ensures ∙ e))))
+
+pub mark-of-one-spec : {M : Type 1} → statement M
+mark-of-one-spec = tie.close (tie.spec mark-kind-requires returns returns-2)

@@ -1,0 +1,21 @@
+-- `lexer::marks::mark_of_two` meets its contract. Assumes nothing.
+use mathlib.Core.Path.{_∙_, sym}
+use Rattle.lexer.proofs.Laws.Marks.{two-found, two-lost}
+use borrow.Author.Needs.{needs}
+use Rattle.lexer.proofs.marks.mark_of_two.Statement.{statement}
+use Rattle.lexer.proofs.marks.mark_of_two.Tie as tie
+
+pair-kind-requires : tie.Need-pair-kind-requires
+pair-kind-requires c κs = search needs
+
+mark-of-one-requires : tie.Need-mark-of-one-requires
+mark-of-one-requires c κs = search needs
+
+returns : tie.Need-returns
+returns c = c .mark-of-one .ensures ∙ sym (two-lost _ _ (sym (c .before .before .pair-kind .ensures) ∙ c .before .if1 .taken))
+
+returns-2 : tie.Need-returns-2
+returns-2 c = rw (c .before .pair-kind .ensures) (sym (two-found _ _ (λ e. c .if1 .left (c .before .pair-kind .ensures ∙ e))))
+
+pub mark-of-two-spec : {M : Type 1} → statement M
+mark-of-two-spec = tie.close (tie.spec pair-kind-requires mark-of-one-requires returns returns-2)

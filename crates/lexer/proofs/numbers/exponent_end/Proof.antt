@@ -1,0 +1,47 @@
+-- `lexer::numbers::exponent_end` meets its contract. Assumes nothing.
+use mathlib.Core.Path.{_∙_, sym}
+use native.Mathlib.Nat.{add-zero}
+use Rattle.lexer.proofs.Laws.Numbers.{begins-inside, exponent-none, exponent-lost, exponent-found}
+use native.Mathlib.Omega.{arith}
+use borrow.Author.Needs.{needs}
+use Rattle.lexer.proofs.numbers.exponent_end.Statement.{statement}
+use Rattle.lexer.proofs.numbers.exponent_end.Tie as tie
+
+begins-with-requires : tie.Need-begins-with-requires
+begins-with-requires c κs = search needs
+
+add-sign-end : tie.Need-add-sign-end
+add-sign-end c = let i = begins-inside (c .before .before .before .args .source .now) (c .before .before .before .args .at) 101 69 (sym (c .before .begins-with .ensures) ∙ c .if1 .taken) in omega arith
+
+sign-end-requires : tie.Need-sign-end-requires
+sign-end-requires c κs = search needs
+
+run-end-requires : tie.Need-run-end-requires
+run-end-requires c κs = search needs
+
+returns : tie.Need-returns
+returns c = let a = c .before .before .before .before .before .before .args in
+    let e = rw (c .before .before .sign-end .ensures) at (c .before .run-end .ensures) in
+    let t = rw (c .before .before .sign-end .ensures) at (c .if2 .taken) in
+    e ∙ sym (exponent-found (a .source .now) (a .at) (sym (c .before .before .before .before .begins-with .ensures) ∙ c .before .before .before .if1 .taken) (omega arith))
+
+returns-2 : tie.Need-returns-2
+returns-2 c = let a = c .before .before .before .before .before .before .args in
+    let e = rw (c .before .before .sign-end .ensures) at (c .before .run-end .ensures) in
+    let t = rw (c .before .before .sign-end .ensures) at (c .if2 .left) in
+    rw (exponent-lost (a .source .now) (a .at) (omega arith)) (sym (add-zero _))
+
+returns-3 : tie.Need-returns-3
+returns-3 c = rw (exponent-none (c .before .before .before .args .source .now) (c .before .before .before .args .at) (sym (c .before .begins-with .ensures) ∙ c .if1 .left)) (sym (add-zero _))
+
+pub exponent-end-spec : {M : Type 1} → statement M
+exponent-end-spec =
+    tie.close
+    (tie.spec
+    begins-with-requires
+    add-sign-end
+    sign-end-requires
+    run-end-requires
+    returns
+    returns-2
+    returns-3)

@@ -1,0 +1,36 @@
+-- `lexer::numbers::fraction_end` meets its contract. Assumes nothing.
+use mathlib.Core.Path.{_∙_, sym}
+use native.Mathlib.Nat.{add-zero}
+use Rattle.lexer.proofs.Laws.Numbers.{begins-inside, fraction-none, fraction-lost, fraction-found}
+use native.Mathlib.Omega.{arith}
+use borrow.Author.Needs.{needs}
+use Rattle.lexer.proofs.numbers.fraction_end.Statement.{statement}
+use Rattle.lexer.proofs.numbers.fraction_end.Tie as tie
+
+begins-with-requires : tie.Need-begins-with-requires
+begins-with-requires c κs = search needs
+
+add-from : tie.Need-add-from
+add-from c = let i = begins-inside (c .before .before .before .args .source .now) (c .before .before .before .args .at) 46 46 (sym (c .before .begins-with .ensures) ∙ c .if1 .taken) in omega arith
+
+run-end-requires : tie.Need-run-end-requires
+run-end-requires c κs = search needs
+
+returns : tie.Need-returns
+returns c = let a = c .before .before .before .before .before .args in
+    let e = c .before .run-end .ensures in
+    let t = c .if2 .taken in
+    e ∙ sym (fraction-found (a .source .now) (a .at) (sym (c .before .before .before .begins-with .ensures) ∙ c .before .before .if1 .taken) (omega arith))
+
+returns-2 : tie.Need-returns-2
+returns-2 c = let a = c .before .before .before .before .before .args in
+    let e = c .before .run-end .ensures in
+    let t = c .if2 .left in
+    rw (fraction-lost (a .source .now) (a .at) (omega arith)) (sym (add-zero _))
+
+returns-3 : tie.Need-returns-3
+returns-3 c = rw (fraction-none (c .before .before .before .args .source .now) (c .before .before .before .args .at) (sym (c .before .begins-with .ensures) ∙ c .if1 .left)) (sym (add-zero _))
+
+pub fraction-end-spec : {M : Type 1} → statement M
+fraction-end-spec =
+    tie.close (tie.spec begins-with-requires add-from run-end-requires returns returns-2 returns-3)

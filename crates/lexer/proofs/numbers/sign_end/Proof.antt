@@ -1,0 +1,23 @@
+-- `lexer::numbers::sign_end` meets its contract. Assumes nothing.
+use mathlib.Core.Path.{_∙_, refl, sym}
+use native.Mathlib.Nat.{add-zero}
+use Rattle.lexer.proofs.Laws.Numbers.{begins-inside, sign-some, sign-none}
+use native.Mathlib.Omega.{arith}
+use borrow.Author.Needs.{needs}
+use Rattle.lexer.proofs.numbers.sign_end.Statement.{statement}
+use Rattle.lexer.proofs.numbers.sign_end.Tie as tie
+
+begins-with-requires : tie.Need-begins-with-requires
+begins-with-requires c κs = search needs
+
+add-result : tie.Need-add-result
+add-result c = let i = begins-inside (c .before .before .before .args .source .now) (c .before .before .before .args .at) 43 45 (sym (c .before .begins-with .ensures) ∙ c .if1 .taken) in omega arith
+
+returns : tie.Need-returns
+returns c = rw (sign-some (c .before .before .before .args .source .now) (c .before .before .before .args .at) (sym (c .before .begins-with .ensures) ∙ c .if1 .taken)) refl
+
+returns-2 : tie.Need-returns-2
+returns-2 c = rw (sign-none (c .before .before .before .args .source .now) (c .before .before .before .args .at) (sym (c .before .begins-with .ensures) ∙ c .if1 .left)) (sym (add-zero _))
+
+pub sign-end-spec : {M : Type 1} → statement M
+sign-end-spec = tie.close (tie.spec begins-with-requires add-result returns returns-2)

@@ -1,0 +1,48 @@
+-- `lexer::words::word_end` meets its contract: a letter begins a word, which runs on over word bytes. Assumes nothing.
+use mathlib.Core.Path.{_∙_, sym}
+use native.Mathlib.Nat.{add-zero}
+use borrow.Author.Tests.{eq-eqb, ne-eqb}
+use Rattle.lexer.proofs.Laws.Classes.{class-letter}
+use Rattle.lexer.proofs.Laws.Fronts.{front-none, front-one}
+use Rattle.lexer.proofs.Laws.Words.{word-letter, word-none, word-nil}
+use native.Mathlib.Omega.{arith}
+use borrow.Author.Needs.{needs}
+use Rattle.lexer.proofs.words.word_end.Statement.{statement}
+use Rattle.lexer.proofs.words.word_end.Tie as tie
+
+shared-slice-read-class-of : tie.Need-shared-slice-read-class-of
+shared-slice-read-class-of c = search needs
+
+class-of-requires : tie.Need-class-of-requires
+class-of-requires c κs = search needs
+
+add-run-end : tie.Need-add-run-end
+add-run-end c = search needs
+
+run-end-requires : tie.Need-run-end-requires
+run-end-requires c κs = search needs
+
+returns : tie.Need-returns
+returns c = let a = c .before .before .before .before .before .before .args in
+    let l = sym (class-letter _ (c .before .before .before .shared-slice-known2 .given (a .at) .fits)) ∙ eq-eqb _ _ (sym (c .before .before .class-of .ensures) ∙ c .before .if2 .taken) in
+    rw (front-one (a .source .now) (a .at) (c .before .before .before .before .if1 .taken), word-letter _ _ l) (let e = c .run-end .ensures in omega arith)
+
+returns-2 : tie.Need-returns-2
+returns-2 c = let a = c .before .before .before .before .before .args in
+    let l = sym (class-letter _ (c .before .before .shared-slice-known2 .given (a .at) .fits)) ∙ ne-eqb _ _ (λ e. c .if2 .left (c .before .class-of .ensures ∙ e)) in
+    rw (front-one (a .source .now) (a .at) (c .before .before .before .if1 .taken), word-none _ _ l) (sym (add-zero _))
+
+returns-3 : tie.Need-returns-3
+returns-3 c = rw (front-none (c .before .before .args .source .now) (c .before .before .args .at) (c .if1 .left), word-nil) (sym (add-zero _))
+
+pub word-end-spec : {M : Type 1} → statement M
+word-end-spec =
+    tie.close
+    (tie.spec
+    shared-slice-read-class-of
+    class-of-requires
+    add-run-end
+    run-end-requires
+    returns
+    returns-2
+    returns-3)
