@@ -7,3 +7,5 @@ pub mod Runs
 pub mod Words
 pub mod Numbers
 pub mod Marks
+pub mod Lexemes
+pub mod Sizes

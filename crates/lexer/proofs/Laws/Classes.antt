@@ -22,17 +22,34 @@ agreed true false t = absurd t
 agreed false true t = absurd t
 agreed false false t = refl
 
+-- one class against one test
+class-test : (k : ℕ) (f : ℕ → Bool) → T (all (λ b. agree (eqb (classOf b) k) (f b)) 256)
+  → (b : ℕ) → b < 256 → eqb (classOf b) k ≡ f b
+class-test k f t b h = agreed _ _ (all-at (λ b. agree (eqb (classOf b) k) (f b)) 256 t b h)
+
 pub class-digit : (b : ℕ) → b < 256 → eqb (classOf b) 0 ≡ isDigit b
 unfolding agree classOf and or between isDigit isLetter isSpace
-class-digit b h = agreed _ _ (all-at (λ b. agree (eqb (classOf b) 0) (isDigit b)) 256 tt b h)
+class-digit = class-test 0 isDigit tt
 
 pub class-letter : (b : ℕ) → b < 256 → eqb (classOf b) 1 ≡ isLetter b
 unfolding agree classOf and or between isDigit isLetter isSpace
-class-letter b h = agreed _ _ (all-at (λ b. agree (eqb (classOf b) 1) (isLetter b)) 256 tt b h)
+class-letter = class-test 1 isLetter tt
 
 pub class-space : (b : ℕ) → b < 256 → eqb (classOf b) 2 ≡ isSpace b
 unfolding agree classOf and or between isDigit isLetter isSpace
-class-space b h = agreed _ _ (all-at (λ b. agree (eqb (classOf b) 2) (isSpace b)) 256 tt b h)
+class-space = class-test 2 isSpace tt
+
+pub class-minus : (b : ℕ) → b < 256 → eqb (classOf b) 3 ≡ eqb b 0x2D
+unfolding agree classOf and or between isDigit isLetter isSpace
+class-minus = class-test 3 (λ b. eqb b 0x2D) tt
+
+pub class-slash : (b : ℕ) → b < 256 → eqb (classOf b) 4 ≡ eqb b 0x2F
+unfolding agree classOf and or between isDigit isLetter isSpace
+class-slash = class-test 4 (λ b. eqb b 0x2F) tt
+
+pub class-backtick : (b : ℕ) → b < 256 → eqb (classOf b) 5 ≡ eqb b 0x60
+unfolding agree classOf and or between isDigit isLetter isSpace
+class-backtick = class-test 5 (λ b. eqb b 0x60) tt
 
 pub class-word : (b : ℕ) → b < 256 → leb (classOf b) 1 ≡ isWordByte b
 unfolding agree classOf and or between isDigit isLetter isSpace isWordByte

@@ -10,6 +10,9 @@ use lib.ListN.{length, drop}
 use lib.Seq.{drop-drop}
 use Rattle.lexer.specs.Tests.{or, pick}
 use Rattle.lexer.specs.Numbers.{digits, beginsWith, withDigits, fraction, sign, exponent}
+use Rattle.lexer.specs.Kinds.{int, float}
+use Rattle.lexer.specs.Lexemes.{numberOf, unsignedNumber}
+use Rattle.lexer.specs.declared.Lexeme.the-variants.{Token, BadByte}
 use Rattle.lexer.proofs.Laws.Tests.{pick-same}
 
 with-some : (n d : ℕ) → 0 < d → withDigits n d ≡ n + d
@@ -21,6 +24,18 @@ with-none : (n d : ℕ) → d ≡ 0 → withDigits n d ≡ 0
 unfolding withDigits
 with-none n zero h = refl
 with-none n (suc d) h = absurd (omega arith)
+
+int-of : (n : ℕ) (t : List ℕ) → 0 < n → numberOf n 0 t ≡ Token int n
+unfolding numberOf
+int-of zero t h = absurd (not-suc-le-zero h)
+int-of (suc n) t h = refl
+
+float-of : (n f : ℕ) (t : List ℕ) → 0 < n → 0 < f → numberOf n f t ≡ Token float (n + f + exponent (drop (n + f) t))
+unfolding numberOf
+float-of zero zero t h g = absurd (not-suc-le-zero h)
+float-of zero (suc f) t h g = absurd (not-suc-le-zero h)
+float-of (suc n) zero t h g = absurd (not-suc-le-zero g)
+float-of (suc n) (suc f) t h g = refl
 
 -- where a byte stands, the list goes on
 begins-inside-by : (a b : ℕ) (t : List ℕ) → beginsWith a b t ≡ true → 0 < length t
@@ -78,3 +93,24 @@ module _ (s : List ℕ) (at : ℕ) where
     → at + exponent (drop at s) ≡ at + 1 + sign (drop (at + 1) s) + digits (drop (at + 1 + sign (drop (at + 1) s)) s)
   unfolding exponent from
   exponent-found h d = rw (h, drop-drop 1 at s, drop-drop, place, with-some (1 + sign (drop (at + 1) s)) (digits (drop from s)) d) (omega arith)
+
+-- what the rule for numbers without a minus gives
+module _ (s : List ℕ) (at : ℕ) where
+  pub no-number : digits (drop at s) ≡ 0 → unsignedNumber (drop at s) ≡ BadByte
+  unfolding unsignedNumber numberOf
+  no-number h = rw h
+
+  pub whole-number : 0 < digits (drop at s) → fraction (drop (at + digits (drop at s)) s) ≡ 0
+    → unsignedNumber (drop at s) ≡ Token int (digits (drop at s))
+  unfolding unsignedNumber
+  whole-number h f = rw (drop-drop, f) (int-of (digits (drop at s)) (drop at s) h)
+
+  pub float-number : 0 < digits (drop at s) → 0 < fraction (drop (at + digits (drop at s)) s)
+    → unsignedNumber (drop at s)
+    ≡ Token float (digits (drop at s) + fraction (drop (at + digits (drop at s)) s)
+      + exponent (drop (at + digits (drop at s) + fraction (drop (at + digits (drop at s)) s)) s))
+  unfolding unsignedNumber
+  float-number h f =
+      let n = digits (drop at s) in
+      let m = fraction (drop (at + n) s) in
+      rw (drop-drop n at s, float-of n m (drop at s) h f, drop-drop (n + m) at s, ← add-assoc at n m)

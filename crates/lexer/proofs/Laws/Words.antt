@@ -8,12 +8,14 @@ use native.Mathlib.Nat.{not-suc-le-zero, add-assoc}
 use lib.Dec.{eqb, ltb}
 use lib.ListN.{length, take, drop, getD, length-drop}
 use lib.Seq.{drop-drop}
-use borrow.Author.Tests.{lt-ltb}
+use borrow.Author.Tests.{lt-ltb, ne-eqb}
 use Rattle.lexer.specs.Tests.{and, pick}
 use Rattle.lexer.specs.Kinds.{ident}
 use Rattle.lexer.specs.Bytes.{isLetter, isWordByte, run}
 use Rattle.lexer.specs.Spellings.{same, kindOf, reserved}
 use Rattle.lexer.specs.Words.{wordLength, orIdent, wordKind, identLength, twoColons, joinsWithin, joins}
+use Rattle.lexer.specs.Lexemes.{wordOf, word}
+use Rattle.lexer.specs.declared.Lexeme.the-variants.{Token, BadByte}
 use Rattle.lexer.proofs.Laws.Tests.{and-false}
 use Rattle.lexer.proofs.Laws.Fronts.{front-one}
 use Rattle.lexer.proofs.Laws.Runs.{run-le}
@@ -112,6 +114,9 @@ module _ (s : List ℕ) (at : ℕ) (one : wordLength (drop at s) ≡ 1) where
       let e = length-drop at s in
       omega arith
 
+  pub kind-one-at : wordKind (take 1 (drop at s)) ≡ wordKind (getD s at 0 ∷ [])
+  kind-one-at = rw (front-one s at one-inside)
+
   pub ident-one-at : identLength (drop at s) ≡ pick (eqb (wordKind (getD s at 0 ∷ [])) ident) 1 0
   ident-one-at =
       let e = front-one s at one-inside in
@@ -143,3 +148,26 @@ module _ (s : List ℕ) (at : ℕ) where
   joins-more-at h more = 
       let n = identLength (drop (at + 2) s) in
       rw (joins-more (drop at s) h (rw drop-drop more), drop-drop 2 at s, drop-drop (2 + n) at s, ← add-assoc at 2 n) (omega arith)
+
+-- what the rule for words gives
+word-of : (n k : ℕ) (t : List ℕ) → 0 < n
+  → wordOf n k t ≡ pick (eqb k ident) (Token k (n + joins (drop n t))) (Token k n)
+unfolding wordOf
+word-of zero k t h = absurd (not-suc-le-zero h)
+word-of (suc n) k t h = refl
+
+module _ (s : List ℕ) (at : ℕ) where
+  pub no-word : wordLength (drop at s) ≡ 0 → word (drop at s) ≡ BadByte
+  unfolding word wordOf
+  no-word h = rw h
+
+  pub ident-word : 0 < wordLength (drop at s) → wordKind (take (wordLength (drop at s)) (drop at s)) ≡ ident
+    → word (drop at s) ≡ Token ident (wordLength (drop at s) + joins (drop (at + wordLength (drop at s)) s))
+  unfolding word
+  ident-word h e = rw (e, word-of _ ident (drop at s) h, drop-drop)
+
+  pub letter-word : wordLength (drop at s) ≡ 1 → (wordKind (getD s at 0 ∷ []) ≡ ident → ⊥)
+    → word (drop at s) ≡ Token (wordKind (getD s at 0 ∷ [])) 1
+  unfolding word
+  letter-word one other =
+      rw (one, kind-one-at s at one, word-of 1 (wordKind (getD s at 0 ∷ [])) (drop at s) (omega arith), ne-eqb _ _ other)

@@ -1,0 +1,58 @@
+-- `lexer::lexemes::minus_at` meets its contract: the number after the `-` takes it, and where there is none it is a mark.
+-- Assumes nothing.
+use Prim.Native.Nat.{_+_}
+use mathlib.Core.Path.{_≡_, _∙_, refl, sym}
+use mathlib.Core.List.{[], _∷_}
+use native.Mathlib.Numerals.{add-one}
+use lib.ListN.{drop, length-drop}
+use Rattle.lexer.proofs.Laws.Sizes.{of-token, proper-unsigned}
+use denote.Enum.Declared.{tagOf}
+use types.Run.{OneOf, miss}
+use Rattle.lexer.specs.Lexemes.{withMinus, orElse}
+use Rattle.lexer.specs.declared.Lexeme.{Lexeme}
+use Rattle.lexer.proofs.Lexeme.{the-type}
+use Rattle.lexer.specs.declared.Lexeme.the-variants.{End, Skipped, Token, BadByte, OpenString}
+use Rattle.lexer.proofs.Laws.Lexemes.{minus-number, minus-mark}
+use native.Mathlib.Omega.{arith}
+use borrow.Author.Needs.{needs}
+use Rattle.lexer.proofs.lexemes.minus_at.Statement.{statement}
+use Rattle.lexer.proofs.lexemes.minus_at.Tie as tie
+
+-- a lexeme that is no token takes no minus
+no-minus : (l : Lexeme) → OneOf (0 ∷ 1 ∷ 3 ∷ 4 ∷ []) (tagOf the-type l) → withMinus l ≡ BadByte
+unfolding withMinus
+no-minus End h = refl
+no-minus (Skipped n) h = refl
+no-minus (Token k n) h = absurd (miss (0 ∷ 1 ∷ 3 ∷ 4 ∷ []) 2 tt h)
+no-minus BadByte h = refl
+no-minus OpenString h = refl
+
+
+add-unsigned-at : tie.Need-add-unsigned-at
+add-unsigned-at c = search needs
+
+unsigned-at-requires : tie.Need-unsigned-at-requires
+unsigned-at-requires c κs = search needs
+
+enum-known-unsigned : tie.Need-enum-known-unsigned
+enum-known-unsigned c = search needs
+
+add-t8 : tie.Need-add-t8
+add-t8 c = let p = of-token (rw (sym (c .before .before .before .unsigned-at .ensures) ∙ c .before .unsigned .given .1) at (proper-unsigned (drop (c .before .before .before .before .before .args .at + 1) (c .before .before .before .before .before .args .source .now)))) in
+    let l = length-drop (c .before .before .before .before .before .args .at + 1) (c .before .before .before .before .before .args .source .now) in
+    let h = c .before .before .before .before .before .pre .0 in
+    let w = p .within in
+    omega arith
+
+returns : tie.Need-returns
+unfolding orElse withMinus
+returns c = rw (minus-number (c .before .before .before .before .before .args .source .now) (c .before .before .before .before .before .args .at) (c .before .before .before .before .before .pre .0) (c .before .before .before .before .before .pre .1), ← c .before .before .before .unsigned-at .ensures, c .before .unsigned .given .1, add-one)
+
+returns-2 : tie.Need-returns-2
+unfolding orElse
+returns-2 c = rw (minus-number (c .before .before .before .args .source .now) (c .before .before .before .args .at) (c .before .before .before .pre .0) (c .before .before .before .pre .1), ← c .before .unsigned-at .ensures, no-minus _ (c .match .keys2)) (sym (minus-mark (c .before .before .before .args .source .now) (c .before .before .before .args .at) (c .before .before .before .pre .0) (c .before .before .before .pre .1)))
+
+pub minus-at-spec : {M : Type 1} → statement M
+minus-at-spec =
+    tie.close
+    (tie.spec add-unsigned-at unsigned-at-requires enum-known-unsigned add-t8 returns returns-2)

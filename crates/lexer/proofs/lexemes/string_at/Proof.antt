@@ -1,0 +1,34 @@
+-- `lexer::lexemes::string_at` meets its contract. Assumes nothing.
+use Prim.Native.Nat.{ℕ}
+use mathlib.Core.Path.{_∙_, sym, ap}
+use Rattle.lexer.specs.Kinds.{string}
+use Rattle.lexer.specs.declared.Lexeme.{Lexeme}
+use Rattle.lexer.proofs.Laws.Lexemes.{string-closed, string-open}
+use native.Mathlib.Omega.{arith}
+use borrow.Author.Needs.{needs}
+use Rattle.lexer.proofs.lexemes.string_at.Statement.{statement}
+use Rattle.lexer.proofs.lexemes.string_at.Tie as tie
+
+add-run-end : tie.Need-add-run-end
+add-run-end c = search needs
+
+run-end-requires : tie.Need-run-end-requires
+run-end-requires c κs = search needs
+
+add-t7 : tie.Need-add-t7
+add-t7 c = search needs
+
+sub-t8 : tie.Need-sub-t8
+sub-t8 c = let e = c .before .run-end .ensures in omega arith
+
+returns : tie.Need-returns
+returns c = let e = c .before .run-end .ensures in
+    let t = c .if1 .taken in
+    ap (λ (n : ℕ). Lexeme.Token string n) (omega arith)
+    ∙ sym (string-closed (c .before .before .before .args .source .now) (c .before .before .before .args .at) (c .before .before .before .pre .0) (c .before .before .before .pre .1) (omega arith))
+
+returns-2 : tie.Need-returns-2
+returns-2 c = sym (string-open (c .before .before .before .args .source .now) (c .before .before .before .args .at) (c .before .before .before .pre .0) (c .before .before .before .pre .1) (let e = c .before .run-end .ensures in let t = c .if1 .left in omega arith))
+
+pub string-at-spec : {M : Type 1} → statement M
+string-at-spec = tie.close (tie.spec add-run-end run-end-requires add-t7 sub-t8 returns returns-2)

@@ -1,0 +1,56 @@
+-- `lexer::numbers::unsigned_at` meets its contract: digits, then a fraction, then an exponent. Assumes nothing.
+use mathlib.Core.Path.{_∙_, sym, ap}
+use Prim.Native.Nat.{ℕ}
+use Rattle.lexer.specs.Kinds.{int, float}
+use Rattle.lexer.specs.declared.Lexeme.{Lexeme}
+use Rattle.lexer.proofs.Laws.Numbers.{no-number, whole-number, float-number}
+use native.Mathlib.Omega.{arith}
+use borrow.Author.Needs.{needs}
+use Rattle.lexer.proofs.numbers.unsigned_at.Statement.{statement}
+use Rattle.lexer.proofs.numbers.unsigned_at.Tie as tie
+
+run-end-requires : tie.Need-run-end-requires
+run-end-requires c κs = search needs
+
+returns : tie.Need-returns
+returns c = sym (no-number (c .before .before .before .args .source .now) (c .before .before .before .args .at) (let e = c .before .run-end .ensures in let t = c .if1 .taken in omega arith))
+
+fraction-end-requires : tie.Need-fraction-end-requires
+fraction-end-requires c κs = search needs
+
+sub-t8 : tie.Need-sub-t8
+sub-t8 c = let e = c .before .before .before .run-end .ensures in omega arith
+
+returns-2 : tie.Need-returns-2
+returns-2 c = let e = c .before .before .before .run-end .ensures in
+    let f = rw e at (c .before .fraction-end .ensures) in
+    let t = rw e at (c .if2 .taken) in
+    let n = c .before .before .if1 .left in
+    ap (λ (m : ℕ). Lexeme.Token int m) (omega arith) ∙ sym (whole-number (c .before .before .before .before .before .args .source .now) (c .before .before .before .before .before .args .at) (omega arith) (omega arith))
+
+exponent-end-requires : tie.Need-exponent-end-requires
+exponent-end-requires c κs = search needs
+
+sub-t9 : tie.Need-sub-t9
+sub-t9 c = let e = c .before .before .before .before .run-end .ensures in let f = c .before .before .fraction-end .ensures in let g = c .exponent-end .ensures in omega arith
+
+returns-3 : tie.Need-returns-3
+returns-3 c = let e = c .before .before .before .before .run-end .ensures in
+    let f = rw e at (c .before .before .fraction-end .ensures) in
+    let g = rw f at (c .exponent-end .ensures) in
+    let t = rw e at (c .before .if2 .left) in
+    let n = c .before .before .before .if1 .left in
+    ap (λ (m : ℕ). Lexeme.Token float m) (omega arith) ∙ sym (float-number (c .before .before .before .before .before .before .args .source .now) (c .before .before .before .before .before .before .args .at) (omega arith) (omega arith))
+
+pub unsigned-at-spec : {M : Type 1} → statement M
+unsigned-at-spec =
+    tie.close
+    (tie.spec
+    run-end-requires
+    returns
+    fraction-end-requires
+    sub-t8
+    returns-2
+    exponent-end-requires
+    sub-t9
+    returns-3)
