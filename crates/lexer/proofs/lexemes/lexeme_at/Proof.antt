@@ -1,0 +1,131 @@
+-- `lexer::lexemes::lexeme_at` meets its contract: the class of the first byte decides the rule. Assumes nothing.
+use Prim.Native.Nat.{ℕ, _+_, _<_}
+use mathlib.Core.Path.{_≡_, _∙_, sym}
+use mathlib.Core.List.{List, _∷_}
+use lib.ListN.{length, drop, getD}
+use borrow.Author.Tests.{eqb-true, eq-eqb}
+use Rattle.lexer.specs.Editions.{edition17}
+use Rattle.lexer.specs.Lexemes.{spaces, comment, word, unsignedNumber, number, text, mark, orElse, lexeme}
+use Rattle.lexer.specs.Leaves.{classOf}
+use Rattle.lexer.specs.declared.Lexeme.{Lexeme}
+use Rattle.lexer.proofs.Laws.Classes.{class-minus, class-slash, class-backtick}
+use Rattle.lexer.proofs.Laws.Fronts.{front-none, front-one}
+use Rattle.lexer.proofs.Laws.Lexemes.{lexeme-letter, lexeme-space, lexeme-digit, lexeme-minus, lexeme-slash, lexeme-backtick, lexeme-mark, string-first}
+use borrow.Author.Needs.{needs}
+use Rattle.lexer.proofs.lexemes.lexeme_at.Statement.{statement}
+use Rattle.lexer.proofs.lexemes.lexeme_at.Tie as tie
+
+-- what a rule f gives at a place, from what it gives at the first byte there and those after it
+here : (f : List ℕ → Lexeme) (s : List ℕ) (at : ℕ) → at < length s
+  → lexeme edition17 (getD s at 0 ∷ drop (at + 1) s) ≡ f (getD s at 0 ∷ drop (at + 1) s)
+  → f (drop at s) ≡ lexeme edition17 (drop at s)
+here f s at inside h = rw (front-one s at inside) (sym h)
+
+module _ (c : tie.After-class-of) where
+  -- the byte that is looked at, and what the class found tells of it
+  abbrev first : ℕ
+  first = getD (c .before .before .before .before .args .source .now) (c .before .before .before .before .args .at) 0
+
+  byte : first < 256
+  byte = c .before .shared-slice-known2 .given (c .before .before .before .before .args .at) .fits
+
+  class-is : (k : ℕ) → c .class-of .result ≡ k → classOf first ≡ k
+  class-is k h = sym (c .class-of .ensures) ∙ h
+
+  class-not : (k : ℕ) → (c .class-of .result ≡ k → ⊥) → classOf first ≡ k → ⊥
+  class-not k h e = h (c .class-of .ensures ∙ e)
+
+  minus-there : c .class-of .result ≡ 3 → first ≡ 0x2D
+  minus-there h = eqb-true _ _ (sym (class-minus _ byte) ∙ eq-eqb _ _ (class-is 3 h))
+
+  slash-there : c .class-of .result ≡ 4 → first ≡ 0x2F
+  slash-there h = eqb-true _ _ (sym (class-slash _ byte) ∙ eq-eqb _ _ (class-is 4 h))
+
+  backtick-there : c .class-of .result ≡ 5 → first ≡ 0x60
+  backtick-there h = eqb-true _ _ (sym (class-backtick _ byte) ∙ eq-eqb _ _ (class-is 5 h))
+
+
+returns : tie.Need-returns
+unfolding lexeme
+returns c = rw (front-none (c .before .before .args .source .now) (c .before .before .args .at) (c .if1 .taken))
+
+shared-slice-read-first : tie.Need-shared-slice-read-first
+shared-slice-read-first c = search needs
+
+class-of-requires : tie.Need-class-of-requires
+class-of-requires c κs = search needs
+
+word-at-requires : tie.Need-word-at-requires
+word-at-requires c κs = search needs
+
+spaces-at-requires : tie.Need-spaces-at-requires
+spaces-at-requires c κs = search needs
+
+unsigned-at-requires : tie.Need-unsigned-at-requires
+unsigned-at-requires c κs = search needs
+
+minus-at-requires : tie.Need-minus-at-requires
+minus-at-requires c κs = (c .before .before .before .if1 .left, minus-there (c .before) (c .match .keys4))
+
+slash-at-requires : tie.Need-slash-at-requires
+slash-at-requires c κs = (c .before .before .before .if1 .left, slash-there (c .before) (c .match .keys5))
+
+string-at-requires : tie.Need-string-at-requires
+string-at-requires c κs = (c .before .before .before .if1 .left, backtick-there (c .before) (c .match .keys6))
+
+mark-at-requires : tie.Need-mark-at-requires
+mark-at-requires c κs = search needs
+
+returns-2 : tie.Need-returns-2
+returns-2 c = c .word-at .ensures ∙ here word _ _ (c .before .before .before .before .if1 .left)
+    (lexeme-letter edition17 _ _ (byte (c .before .before)) (class-is (c .before .before) 1 (c .before .match .keys1)))
+
+returns-3 : tie.Need-returns-3
+returns-3 c = c .spaces-at .ensures ∙ here spaces _ _ (c .before .before .before .before .if1 .left)
+    (lexeme-space edition17 _ _ (byte (c .before .before)) (class-is (c .before .before) 2 (c .before .match .keys2)))
+
+returns-4 : tie.Need-returns-4
+returns-4 c = c .unsigned-at .ensures ∙ here unsignedNumber _ _ (c .before .before .before .before .if1 .left)
+    (lexeme-digit edition17 _ _ (byte (c .before .before)) (class-is (c .before .before) 0 (c .before .match .keys3)))
+
+returns-5 : tie.Need-returns-5
+returns-5 c = c .minus-at .ensures ∙ here (λ s. orElse (number edition17 s) (mark edition17 s)) _ _ (c .before .before .before .before .if1 .left)
+    (lexeme-minus edition17 _ _ (byte (c .before .before)) (class-is (c .before .before) 3 (c .before .match .keys4)))
+
+returns-6 : tie.Need-returns-6
+returns-6 c = c .slash-at .ensures ∙ here (λ s. orElse (comment s) (mark edition17 s)) _ _ (c .before .before .before .before .if1 .left)
+    (lexeme-slash edition17 _ _ (byte (c .before .before)) (class-is (c .before .before) 4 (c .before .match .keys5)))
+
+returns-7 : tie.Need-returns-7
+returns-7 c = c .string-at .ensures ∙ sym (string-first _ _ (c .before .before .before .before .if1 .left) (backtick-there (c .before .before) (c .before .match .keys6)) _)
+    ∙ here (λ s. orElse (text s) (mark edition17 s)) _ _ (c .before .before .before .before .if1 .left)
+    (lexeme-backtick edition17 _ _ (byte (c .before .before)) (class-is (c .before .before) 5 (c .before .match .keys6)))
+
+returns-8 : tie.Need-returns-8
+returns-8 c = let r = c .before .match .rest in
+    let no = class-not (c .before .before) in
+    c .mark-at .ensures ∙ here (mark edition17) _ _ (c .before .before .before .before .if1 .left)
+    (lexeme-mark edition17 _ _ (byte (c .before .before)) (no 0 (r .0 .0 .0 .1)) (no 1 (r .0 .0 .0 .0 .0 .1)) (no 2 (r .0 .0 .0 .0 .1))
+    (no 3 (r .0 .0 .1)) (no 4 (r .0 .1)) (no 5 (r .1)))
+
+pub lexeme-at-spec : {M : Type 1} → statement M
+lexeme-at-spec =
+    tie.close
+    (tie.spec
+    returns
+    shared-slice-read-first
+    class-of-requires
+    word-at-requires
+    spaces-at-requires
+    unsigned-at-requires
+    minus-at-requires
+    slash-at-requires
+    string-at-requires
+    mark-at-requires
+    returns-2
+    returns-3
+    returns-4
+    returns-5
+    returns-6
+    returns-7
+    returns-8)
