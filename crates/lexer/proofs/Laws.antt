@@ -9,3 +9,7 @@ pub mod Numbers
 pub mod Marks
 pub mod Lexemes
 pub mod Sizes
+pub mod Scans
+pub mod Counts
+pub mod Rows
+pub mod Fills

@@ -1,5 +1,5 @@
--- The token table: its rows, and what the tokeniser answers and leaves in it.
-use Prim.Native.Nat.{ℕ, _+_, _*_, _/_}
+-- The token table: its rows, what the tokeniser answers and what it leaves in the table.
+use Prim.Native.Nat.{ℕ, _*_, _+_, _/_}
 use mathlib.Core.List.{List, [], _∷_, _++_}
 use lib.Dec.{ltb, leb}
 use lib.ListN.{length, drop, getD}
@@ -9,7 +9,7 @@ use Rattle.lexer.specs.Tokens.{Token, Scan, clean, fault, scan}
 use Rattle.lexer.specs.declared.Scanned.{Scanned}
 use Rattle.lexer.specs.declared.Scanned.the-variants.{Tokens, Refused}
 
--- "source over 1,048,576 bytes"
+-- "source over 1,048,576 bytes": refusal 1, place 0
 abbrev pub sourceLimit : ℕ
 sourceLimit = 1048576
 
@@ -17,11 +17,63 @@ sourceLimit = 1048576
 abbrev pub tokenWidth : ℕ
 tokenWidth = 3
 
+-- the whole rows of a table
+abbrev pub tokenRoom : List ℕ → ℕ
+tokenRoom table = length table / tokenWidth
+
 -- "three u32 per row (kind, start byte, length)"
 unfoldable pub tokenRow : Token → List ℕ
 tokenRow t = t .kind ∷ t .start ∷ t .length ∷ []
 
 unfoldable pub tokenRows : List Token → List ℕ
-unfolding tokenRow
 tokenRows [] = []
 tokenRows (t ∷ ts) = tokenRow t ++ tokenRows ts
+
+-- the first rows hold the tokens, all other numbers are as they were
+unfoldable pub filled : List Token → List ℕ → List ℕ
+filled ts table = tokenRows ts ++ drop (length ts * tokenWidth) table
+
+-- the tokens of a source, none where it has a fault
+unfoldable pub tokensOf : Scan → List Token
+tokensOf (clean ts) = ts
+tokensOf (fault number place) = []
+
+-- the number of tokens, or the fault
+unfoldable pub scanned : Scan → Scanned
+scanned (clean ts) = Tokens (length ts)
+scanned (fault number place) = Refused number place
+
+-- refusal 1, else what the source's tokens are
+unfoldable pub counted : Edition → List ℕ → Scanned
+counted e s = pick (ltb sourceLimit (length s)) (Refused 1 0) (scanned (scan e s))
+
+-- "more tokens than rows": refusal 5, place the tokens needed, where there is no other
+unfoldable pub withRoom : ℕ → Scanned → Scanned
+withRoom rows (Tokens n) = pick (leb n rows) (Tokens n) (Refused 5 n)
+withRoom rows (Refused number place) = Refused number place
+
+-- what the tokeniser answers for a source and a table
+unfoldable pub tokenized : Edition → List ℕ → List ℕ → Scanned
+tokenized e s table = withRoom (tokenRoom table) (counted e s)
+
+-- "On 3, 4 and 5 the table is unchanged", and on 1
+unfoldable pub afterAnswer : Scanned → List Token → List ℕ → List ℕ
+afterAnswer (Tokens n) ts table = filled ts table
+afterAnswer (Refused number place) ts table = table
+
+-- what it leaves in the table
+unfoldable pub tableAfter : Edition → List ℕ → List ℕ → List ℕ
+tableAfter e s table = afterAnswer (tokenized e s table) (tokensOf (scan e s)) table
+
+-- a token's kind, start and length in a table, 0 past its whole rows
+unfoldable pub entryAt : ℕ → List ℕ → ℕ → ℕ
+entryAt column table row = pick (ltb row (tokenRoom table)) (getD table (row * tokenWidth + column) 0) 0
+
+abbrev pub kindAt : List ℕ → ℕ → ℕ
+kindAt = entryAt 0
+
+abbrev pub startAt : List ℕ → ℕ → ℕ
+startAt = entryAt 1
+
+abbrev pub lengthAt : List ℕ → ℕ → ℕ
+lengthAt = entryAt 2

@@ -5,6 +5,8 @@ mod words;
 mod numbers;
 mod marks;
 mod lexemes;
+mod table;
+mod tokens;
 
 // A class of bytes that a lexeme can go on over.
 pub enum Class {

@@ -1,0 +1,81 @@
+// The passes over a whole source: one counts its tokens or finds its first fault, one fills a lent table.
+use crate::lexemes;
+use crate::table;
+use crate::Lexeme;
+use crate::Scanned;
+ghost use mathlib.Core.Path.{_≡_};
+ghost use Prim.Native.Nat.{_+_, _*_, _≤_};
+ghost use lib.ListN.{length};
+ghost use Rattle.lexer.specs.Editions.{edition17};
+ghost use Rattle.lexer.specs.Tokens.{Scan, clean, scan};
+ghost use Rattle.lexer.specs.Table.{sourceLimit, tokenWidth, tokensOf, filled, counted, tokenized, tableAfter};
+
+// The most bytes that a source may have.
+pub const SOURCE_LIMIT: usize = 1048576;
+
+// The number of tokens of a source, or its refusal 1, 3 or 4.
+pub fn count_tokens(source: &[u8]) -> Scanned
+    ensures { λ r. ⌜ r ≡ counted edition17 (now (source .entry)) ⌝ }
+{
+    if SOURCE_LIMIT < source.len() {
+        return Scanned::Refused(1, 0);
+    }
+    let mut at = 0;
+    let mut count = 0;
+    loop {
+        let next = lexemes::lexeme_at(source, at);
+        match next {
+            Lexeme::End => return Scanned::Tokens(count),
+            Lexeme::Skipped(len) => at += len,
+            Lexeme::Token(_, len) => {
+                count += 1;
+                at += len;
+            }
+            Lexeme::BadByte => return Scanned::Refused(3, at),
+            Lexeme::OpenString => return Scanned::Refused(4, at),
+        }
+    }
+}
+
+// Writes the tokens of a source without a fault into the first rows of the table.
+fn fill(source: &[u8], table: &mut [u32])
+    requires { ⌜ length (now source) ≤ sourceLimit ⌝ }
+    requires { ⌜ scan edition17 (now source) ≡ clean (tokensOf (scan edition17 (now source))) ⌝ }
+    requires { ⌜ length (tokensOf (scan edition17 (now source))) * tokenWidth ≤ length (now table) ⌝ }
+    ensures { λ r. ⌜ now (table .exit) ≡ filled (tokensOf (scan edition17 (now (source .entry)))) (now (table .entry)) ⌝ }
+{
+    let mut at = 0;
+    let mut row = 0;
+    loop {
+        let next = lexemes::lexeme_at(source, at);
+        match next {
+            Lexeme::End => return,
+            Lexeme::Skipped(len) => at += len,
+            Lexeme::Token(kind, len) => {
+                table::put_token(table, row, kind, at as u32, len as u32);
+                row += 1;
+                at += len;
+            }
+            Lexeme::BadByte => return,
+            Lexeme::OpenString => return,
+        }
+    }
+}
+
+// The tokens of a source into the first rows of the table, or the refusal, which leaves the table as it is.
+pub fn tokenize(source: &[u8], table: &mut [u32]) -> Scanned
+    ensures { λ r. ⌜ r ≡ tokenized edition17 (now (source .entry)) (now (table .entry)) ⌝ }
+    ensures { λ r. ⌜ now (table .exit) ≡ tableAfter edition17 (now (source .entry)) (now (table .entry)) ⌝ }
+{
+    let found = count_tokens(source);
+    match found {
+        Scanned::Refused(number, place) => Scanned::Refused(number, place),
+        Scanned::Tokens(count) => {
+            if table::room(table) < count {
+                return Scanned::Refused(5, count);
+            }
+            fill(source, table);
+            Scanned::Tokens(count)
+        }
+    }
+}
