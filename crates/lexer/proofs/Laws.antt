@@ -13,3 +13,4 @@ pub mod Scans
 pub mod Counts
 pub mod Rows
 pub mod Fills
+pub mod Answers

@@ -10,12 +10,12 @@ ghost use Rattle.lexer.specs.Editions.{edition17};
 ghost use Rattle.lexer.specs.Words.{wordKind};
 ghost use Rattle.lexer.specs.Leaves.{classOf};
 
-pub const DIGIT: u8 = 0;
-pub const LETTER: u8 = 1;
-pub const SPACE: u8 = 2;
-pub const MINUS: u8 = 3;
-pub const SLASH: u8 = 4;
-pub const BACKTICK: u8 = 5;
+pub(crate) const DIGIT: u8 = 0;
+pub(crate) const LETTER: u8 = 1;
+pub(crate) const SPACE: u8 = 2;
+pub(crate) const MINUS: u8 = 3;
+pub(crate) const SLASH: u8 = 4;
+pub(crate) const BACKTICK: u8 = 5;
 
 // The class of each byte: one of the above, or 6.
 const CLASSES: [u8; 256] = [
@@ -53,21 +53,21 @@ const MARK_KINDS: [u32; 256] = [
     0, 0, 0, 0, 0, 0, 0, 0, 0, 0, 0, 0, 0, 0, 0, 0, 0, 0, 0, 0, 0, 0, 0, 0, 0, 0, 0, 0, 0, 0, 0, 0,
 ];
 
-pub fn class_of(b: u8) -> u8
+pub(crate) fn class_of(b: u8) -> u8
     ensures { λ r. ⌜ r ≡ classOf b ⌝ }
 {
     CLASSES[b as usize]
 }
 
 // The kind of the word of one letter.
-pub fn letter_kind(b: u8) -> u32
+pub(crate) fn letter_kind(b: u8) -> u32
     ensures { λ r. ⌜ r ≡ wordKind (b ∷ []) ⌝ }
 {
     WORD_KINDS[b as usize]
 }
 
 // The kind of the mark of one byte, or 0.
-pub fn mark_kind(b: u8) -> u32
+pub(crate) fn mark_kind(b: u8) -> u32
     ensures { λ r. ⌜ r ≡ kindOf (edition17 .marks) (b ∷ []) ⌝ }
 {
     MARK_KINDS[b as usize]

@@ -1,12 +1,12 @@
 // From bytes to tokens: the tokeniser of NURL, proved to give exactly the tokens of the lexical rules in specs/.
-mod kinds;
-mod bytes;
+pub mod kinds;
+pub mod bytes;
 mod words;
 mod numbers;
 mod marks;
-mod lexemes;
-mod table;
-mod tokens;
+pub mod lexemes;
+pub mod table;
+pub mod tokens;
 
 // A class of bytes that a lexeme can go on over.
 pub enum Class {

@@ -1,0 +1,58 @@
+-- The tokeniser's answer and table from the count of tokens, case by case, for any edition. Assumes nothing.
+use Prim.Native.Nat.{ℕ, _*_, _<_, _≤_}
+use mathlib.Core.Path.{_≡_, refl, sym, _∙_}
+use mathlib.Core.Bool.{Bool, true, false}
+use mathlib.Core.List.{List}
+use native.Mathlib.Omega.{arith}
+use lib.Dec.{ltb}
+use lib.ListN.{length}
+use borrow.Author.Tests.{le-leb, lt-leb, ltb-false}
+use Rattle.lexer.specs.Tests.{pick}
+use Rattle.lexer.specs.Editions.{Edition}
+use Rattle.lexer.specs.Tokens.{Scan, clean, fault, scan}
+use Rattle.lexer.specs.Table.{sourceLimit, tokenWidth, tokenRoom, filled, tokensOf, scanned, counted, withRoom, tokenized, afterAnswer, tableAfter}
+use Rattle.lexer.specs.declared.Scanned.{Scanned}
+use Rattle.lexer.specs.declared.Scanned.the-variants.{Tokens, Refused}
+
+-- what an answer and the table after it are
+pub record Answered (e : Edition) (s table : List ℕ) (answer : Scanned) (after : List ℕ) : Type 0 where
+  pub says : tokenized e s table ≡ answer
+  pub leaves : tableAfter e s table ≡ after
+
+-- what a count tells of the source
+pub record Clean (e : Edition) (s : List ℕ) (n : ℕ) : Type 0 where
+  pub short : length s ≤ sourceLimit
+  pub all : scan e s ≡ clean (tokensOf (scan e s))
+  pub count : length (tokensOf (scan e s)) ≡ n
+
+clean-scan : (x : Scan) (n : ℕ) → scanned x ≡ Tokens n → (x ≡ clean (tokensOf x)) × (length (tokensOf x) ≡ n)
+unfolding scanned tokensOf
+clean-scan (clean ts) n h = (refl, cc)
+clean-scan (fault number place) n h = let z : _≡_ {A = ℕ} 0 1 = cc in absurd (omega arith)
+
+module _ (e : Edition) (s : List ℕ) where
+  counted-by : (n : ℕ) (t : Bool) → ltb sourceLimit (length s) ≡ t
+    → pick t (Refused 1 0) (scanned (scan e s)) ≡ Tokens n → Clean e s n
+  counted-by n true q h = let z : _≡_ {A = ℕ} 0 1 = cc in absurd (omega arith)
+  counted-by n false q h =
+      let c = clean-scan (scan e s) n h in
+      record { short = ltb-false _ _ q; all = c .0; count = c .1 }
+
+  pub clean-count : (n : ℕ) → counted e s ≡ Tokens n → Clean e s n
+  unfolding counted
+  clean-count n h = counted-by n (ltb sourceLimit (length s)) refl h
+
+  module _ (table : List ℕ) where
+    pub answer-refused : (number place : ℕ) → counted e s ≡ Refused number place
+      → Answered e s table (Refused number place) table
+    unfolding tokenized withRoom tableAfter afterAnswer
+    answer-refused number place h = record { says = rw h; leaves = rw h }
+
+    pub answer-full : (n : ℕ) → counted e s ≡ Tokens n → tokenRoom table < n → Answered e s table (Refused 5 n) table
+    unfolding tokenized withRoom tableAfter afterAnswer
+    answer-full n h full = record { says = rw (h, lt-leb _ _ full); leaves = rw (h, lt-leb _ _ full) }
+
+    pub answer-tokens : (n : ℕ) → counted e s ≡ Tokens n → n ≤ tokenRoom table
+      → Answered e s table (Tokens n) (filled (tokensOf (scan e s)) table)
+    unfolding tokenized withRoom tableAfter afterAnswer
+    answer-tokens n h fits = record { says = rw (h, le-leb _ _ fits); leaves = rw (h, le-leb _ _ fits) }

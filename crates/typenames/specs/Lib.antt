@@ -1,0 +1,2 @@
+-- The list of extra type names.
+pub mod NameList
