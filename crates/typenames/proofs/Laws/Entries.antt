@@ -1,0 +1,114 @@
+-- The entries of a name list from a place on: the first of them, and the answer by it. Assumes nothing.
+use Prim.Native.Nat.{ℕ, suc, _+_, _<_, _≤_}
+use mathlib.Core.Path.{_≡_, refl, sym, _∙_, ap}
+use mathlib.Core.Bool.{Bool, true, false, not}
+use mathlib.Core.List.{List, [], _∷_}
+use native.Mathlib.Omega.{arith}
+use native.Mathlib.Nat.{add-assoc}
+use native.Mathlib.Numerals.{add-one}
+use lib.Dec.{eqb, ltb}
+use borrow.Author.Tests.{ltb-true, ltb-false}
+use lib.ListN.{length, take, drop, length-drop}
+use lib.Seq.{drop-drop, take-length, length-take-le}
+use Rattle.lexer.specs.Bytes.{isInLine, run}
+use Rattle.lexer.specs.Editions.{Edition}
+use Rattle.lexer.proofs.Laws.Runs.{run-nil, run-pass, run-stop, run-le}
+use Rattle.typenames.specs.NameList.{push, split, entries, isName, firstBad}
+use Rattle.typenames.specs.declared.Checked.{Checked}
+use Rattle.typenames.specs.declared.Checked.the-variants.{Good, Refused}
+
+-- what a byte of a line tells
+in-line : (b : ℕ) → eqb b 10 ≡ false → isInLine b ≡ true
+unfolding isInLine
+in-line b h = rw h
+
+line-end : (b : ℕ) → eqb b 10 ≡ true → isInLine b ≡ false
+unfolding isInLine
+line-end b h = rw h
+
+-- the first entry ends before the first byte 10 ..
+split-more-by : (b : ℕ) (s : List ℕ) (t : Bool) → eqb b 10 ≡ t
+  → (run isInLine s < length s → split s ≡ take (run isInLine s) s ∷ split (drop (suc (run isInLine s)) s))
+  → run isInLine (b ∷ s) < suc (length s)
+  → split (b ∷ s) ≡ take (run isInLine (b ∷ s)) (b ∷ s) ∷ split (drop (suc (run isInLine (b ∷ s))) (b ∷ s))
+unfolding split push
+split-more-by b s true e below h = rw (run-stop isInLine b s (line-end b e), e)
+split-more-by b s false e below h =
+    let r = run-pass isInLine b s (in-line b e) in
+    rw (r, e, below (omega arith))
+
+split-more : (s : List ℕ) → run isInLine s < length s → split s ≡ take (run isInLine s) s ∷ split (drop (suc (run isInLine s)) s)
+split-more [] h = absurd (omega arith)
+split-more (b ∷ s) h = split-more-by b s (eqb b 10) refl (split-more s) h
+
+-- .. or, where there is none, is the only one
+split-last-by : (b : ℕ) (s : List ℕ) (t : Bool) → eqb b 10 ≡ t → (run isInLine s ≡ length s → split s ≡ s ∷ [])
+  → run isInLine (b ∷ s) ≡ suc (length s) → split (b ∷ s) ≡ (b ∷ s) ∷ []
+unfolding split push
+split-last-by b s true e below h = let r = run-stop isInLine b s (line-end b e) in absurd (omega arith)
+split-last-by b s false e below h =
+    let r = run-pass isInLine b s (in-line b e) in
+    rw (e, below (omega arith))
+
+split-last : (s : List ℕ) → run isInLine s ≡ length s → split s ≡ s ∷ []
+unfolding split
+split-last [] h = refl
+split-last (b ∷ s) h = split-last-by b s (eqb b 10) refl (split-last s) h
+
+-- in both cases the first entry is the first line
+split-first-by : (s : List ℕ) (t : Bool) → ltb (run isInLine s) (length s) ≡ t
+  → (ws : List (List ℕ)) × (split s ≡ take (run isInLine s) s ∷ ws)
+split-first-by s true e = (split (drop (suc (run isInLine s)) s), split-more s (ltb-true _ _ e))
+split-first-by s false e =
+    let below = ltb-false (run isInLine s) (length s) e in
+    let le = run-le isInLine s in
+    let all : run isInLine s ≡ length s = omega arith in
+    ([], split-last s all ∙ rw all (ap (λ (w : List ℕ). w ∷ []) (sym (take-length s))))
+
+split-first : (s : List ℕ) → (ws : List (List ℕ)) × (split s ≡ take (run isInLine s) s ∷ ws)
+split-first s = split-first-by s (ltb (run isInLine s) (length s)) refl
+
+pub entries-some : (list : List ℕ) → 0 < length list → entries list ≡ split list
+unfolding entries
+entries-some [] h = absurd (omega arith)
+entries-some (b ∷ s) h = refl
+
+pub entries-none : (list : List ℕ) → length list ≡ 0 → entries list ≡ []
+unfolding entries
+entries-none [] h = refl
+entries-none (b ∷ s) h = absurd (omega arith)
+
+-- the answer from a place on, by the entry there
+module _ (e : Edition) (list : List ℕ) (at : ℕ) where
+  abbrev pub lineLength : ℕ
+  lineLength = run isInLine (drop at list)
+
+  pub line-inside : at ≤ length list → at + lineLength ≤ length list
+  line-inside h =
+      let r = run-le isInLine (drop at list) in
+      let l = length-drop at list in
+      omega arith
+
+  pub bad-here : isName e (take lineLength (drop at list)) ≡ false
+    → firstBad e at (split (drop at list)) ≡ Refused 2 at
+  unfolding firstBad
+  bad-here n = rw (split-first (drop at list) .1, n)
+
+  pub good-last : at ≤ length list → at + lineLength ≡ length list → isName e (take lineLength (drop at list)) ≡ true
+    → firstBad e at (split (drop at list)) ≡ Good
+  unfolding firstBad
+  good-last h end n =
+      let d = drop at list in
+      let l = length-drop at list in
+      let all : lineLength ≡ length d = omega arith in
+      let name : isName e d ≡ true = rw (all, take-length d) at n in
+      rw (split-last d all, name)
+
+  pub good-here : at + lineLength < length list → isName e (take lineLength (drop at list)) ≡ true
+    → firstBad e at (split (drop at list)) ≡ firstBad e (at + lineLength + 1) (split (drop (at + lineLength + 1) list))
+  unfolding firstBad
+  good-here h n =
+      let d = drop at list in
+      let l = length-drop at list in
+      let below : lineLength < length d = omega arith in
+      rw (split-more d below, n, length-take-le lineLength d (omega arith), drop-drop, ← add-one lineLength, ← add-assoc at lineLength 1)
