@@ -7,7 +7,7 @@ ghost use lib.Seq.{sets};
 ghost use Rattle.lexer.specs.Table.{tokenWidth, tokenRoom, entryAt, kindAt, startAt, lengthAt};
 
 // The numbers in a row: a token's kind, start and length.
-const WIDTH: usize = 3;
+pub const WIDTH: usize = 3;
 
 // How many whole rows the table has.
 pub fn room(table: &[u32]) -> usize

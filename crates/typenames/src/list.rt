@@ -1,8 +1,6 @@
 // Checking a list of names: each entry is exactly one IDENT.
 use crate::Checked;
-use lexer::bytes;
 use lexer::kinds;
-use lexer::lexemes;
 use lexer::Class;
 use lexer::Lexeme;
 ghost use mathlib.Core.Path.{_≡_};
@@ -16,7 +14,7 @@ pub const NAME_LIMIT: usize = 16384;
 pub fn is_name(entry: &[u8]) -> bool
     ensures { λ r. ⌜ r ≡ isName edition17 (now (entry .entry)) ⌝ }
 {
-    let first = lexemes::lexeme_at(entry, 0);
+    let first = lexer::lexeme_at(entry, 0);
     match first {
         Lexeme::End => false,
         Lexeme::Skipped(_) => false,
@@ -43,7 +41,7 @@ pub fn check_names(list: &[u8]) -> Checked
     }
     let mut at = 0;
     loop {
-        let end = bytes::run_end(list, at, Class::Line);
+        let end = lexer::run_end(list, at, Class::Line);
         if !is_name(&list[at..end]) {
             return Checked::Refused(2, at);
         }
