@@ -1,5 +1,7 @@
 // The cases: a header of four numbers `S R N T`, then S bytes that R times over are the source, then N bytes of names,
 // then one byte 10. T is the length of the token table.
+ghost use Prim.Native.Nat.{_≤_};
+
 // Where a case's parts stand, and the length of its table.
 pub struct Case {
     pub piece: usize,
@@ -15,7 +17,9 @@ struct Number {
 }
 
 // The decimal number at `at`, and the place after the byte that ends it. A number that is too large ends the text.
-fn number_at(text: &[u8], at: usize) -> Number {
+fn number_at(text: &[u8], at: usize) -> Number
+    ensures { λ r. ⌜ r .value ≤ 20000255 ⌝ }
+{
     let mut value: usize = 0;
     let mut i = at;
     while i < text.len() {

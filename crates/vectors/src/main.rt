@@ -3,6 +3,8 @@ mod input;
 mod output;
 use lexer::Scanned;
 use typenames::Checked;
+ghost use mathlib.Core.Path.{_≡_};
+ghost use lib.ListN.{length};
 
 // The tokens of a source, or the refusal, in document 01's order: 1, 2, then 3 or 4, then 5.
 fn answer(source: &[u8], names: &[u8], rows: &mut [u32]) -> Scanned {
@@ -60,10 +62,29 @@ fn run_all(text: &[u8], source: &mut [u8], rows: &mut [u32]) {
     }
 }
 
+// Room for all cases, for the longest source of a case, and for the largest table.
+fn text_buffer() -> [u8; 600000]
+    ensures { λ r. ⌜ 600000 ≡ length r ⌝ }
+{
+    [0; 600000]
+}
+
+fn source_buffer() -> [u8; 1048577]
+    ensures { λ r. ⌜ 1048577 ≡ length r ⌝ }
+{
+    [0; 1048577]
+}
+
+fn rows_buffer() -> [u32; 9000]
+    ensures { λ r. ⌜ 9000 ≡ length r ⌝ }
+{
+    [0; 9000]
+}
+
 fn main() {
-    let mut text = [0u8; 600000];
-    let mut source = [0u8; 1048577];
-    let mut rows = [0u32; 9000];
+    let mut text = text_buffer();
+    let mut source = source_buffer();
+    let mut rows = rows_buffer();
     let n = io::read_full(0, &mut text);
     run_all(&text[..n], &mut source, &mut rows);
 }

@@ -1,6 +1,8 @@
 // What is printed of a case: the answer, and the whole token table after it.
 use crate::input;
 use lexer::Scanned;
+ghost use Prim.Native.Nat.{_≤_};
+ghost use Rattle.lexer.specs.Table.{tokenRoom};
 
 const OUT: i32 = 1;
 
@@ -46,7 +48,10 @@ fn print_rows(rows: &[u32], from: usize, to: usize) {
 }
 
 // How many of the first `whole` rows there are up to the last one that does not hold the pattern.
-fn changed_rows(rows: &[u32], whole: usize) -> usize {
+fn changed_rows(rows: &[u32], whole: usize) -> usize
+    requires { ⌜ whole ≤ tokenRoom (now rows) ⌝ }
+    ensures { λ r. ⌜ r ≤ whole ⌝ }
+{
     let mut left = whole;
     while 0 < left {
         let first = (left - 1) * lexer::WIDTH;
