@@ -10,7 +10,11 @@ pub mod Marks
 pub mod Lexemes
 pub mod Sizes
 pub mod Scans
+pub mod Cover
+pub mod Places
+pub mod Longest
 pub mod Counts
 pub mod Rows
 pub mod Fills
 pub mod Answers
+pub mod Examples

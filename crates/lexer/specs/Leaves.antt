@@ -1,4 +1,5 @@
 -- The class of a byte, which the tokeniser looks up in a table. Nothing but the tokeniser's own leaves speaks of it.
+use Prim.Native.Char.{code}
 use Prim.Native.Nat.{ℕ}
 use lib.Dec.{eqb}
 use Rattle.lexer.specs.Tests.{pick}
@@ -11,6 +12,6 @@ classOf b =
     pick (isDigit b) 0
     (pick (isLetter b) 1
     (pick (isSpace b) 2
-    (pick (eqb b 0x2D) 3
-    (pick (eqb b 0x2F) 4
-    (pick (eqb b 0x60) 5 6)))))
+    (pick (eqb b (code "-")) 3
+    (pick (eqb b (code "/")) 4
+    (pick (eqb b (code "`")) 5 6)))))

@@ -1,16 +1,16 @@
 -- The lexeme at the front of a list of bytes: what each rule finds there, and the one definition of which it is.
+use Prim.Native.Char.{code}
 use Prim.Native.Nat.{ℕ, zero, suc, _+_}
-use mathlib.Core.Bool.{Bool}
 use mathlib.Core.List.{List, [], _∷_}
 use lib.Dec.{eqb, ltb}
 use lib.ListN.{length, take, drop}
 use Rattle.lexer.specs.Tests.{and, pick}
 use Rattle.lexer.specs.Kinds.{ident, int, float, string}
-use Rattle.lexer.specs.Bytes.{isSpace, isInLine, isInString, run}
+use Rattle.lexer.specs.Bytes.{isSpace, isInLine, isInString, begins, run}
 use Rattle.lexer.specs.Spellings.{Spelling, kindOf, longest}
 use Rattle.lexer.specs.Editions.{Edition}
 use Rattle.lexer.specs.Words.{wordLength, wordKind, joins}
-use Rattle.lexer.specs.Numbers.{digits, fraction, exponent, beginsWith}
+use Rattle.lexer.specs.Numbers.{digits, fraction, exponent}
 use Rattle.lexer.specs.declared.Lexeme.{Lexeme}
 use Rattle.lexer.specs.declared.Lexeme.the-variants.{End, Skipped, Token, BadByte, OpenString}
 
@@ -28,7 +28,7 @@ spaces s = skippedSpaces (run isSpace s)
 unfoldable pub comment : List ℕ → Lexeme
 comment s =
     let n = run isInLine (drop 2 s) in
-    pick (and (beginsWith 0x2F 0x2F s) (beginsWith 0x2F 0x2F (drop 1 s))) (Skipped (2 + n)) BadByte
+    pick (and (begins (code "/") s) (begins (code "/") (drop 1 s))) (Skipped (2 + n)) BadByte
 
 -- a word of length n at the front of s, of kind k
 unfoldable pub wordOf : ℕ → ℕ → List ℕ → Lexeme
@@ -61,13 +61,13 @@ unfoldable pub number : Edition → List ℕ → Lexeme
 number e s =
     let minus = withMinus (unsignedNumber (drop 1 s)) in
     let plain = unsignedNumber s in
-    pick (and (e .signed) (beginsWith 0x2D 0x2D s)) minus plain
+    pick (and (e .signed) (begins (code "-") s)) minus plain
 
 -- "STR: backtick to next backtick, any bytes."
 unfoldable pub text : List ℕ → Lexeme
 text s =
     let n = run isInString (drop 1 s) in
-    pick (beginsWith 0x60 0x60 s) (pick (ltb (1 + n) (length s)) (Token string (2 + n)) OpenString) BadByte
+    pick (begins (code "`") s) (pick (ltb (1 + n) (length s)) (Token string (2 + n)) OpenString) BadByte
 
 -- a mark of kind k and length n; 0 is no kind
 unfoldable pub markOf : ℕ → ℕ → Lexeme → Lexeme

@@ -10,4 +10,5 @@ pub mod Numbers
 pub mod Lexemes
 pub mod Tokens
 pub mod Table
+pub mod Examples
 pub mod Leaves

@@ -1,5 +1,5 @@
 -- Fixed spellings with their kinds: the words that are no IDENT, and the marks.
-use Prim.Native.Nat.{ℕ, zero, suc, max}
+use Prim.Native.Nat.{ℕ, max}
 use Prim.Native.String.{String}
 use mathlib.Core.Bool.{Bool, true, false}
 use mathlib.Core.List.{List, [], _∷_}
@@ -14,7 +14,6 @@ pub record Spelling : Type 0 where
   pub kind : ℕ
 
 infix 90 _is_
-
 unfoldable pub _is_ : String → ℕ → Spelling
 unfolding bytes
 s is k = record { text = bytes s; kind = k }

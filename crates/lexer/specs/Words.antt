@@ -1,5 +1,6 @@
 -- "Word: an ASCII letter or `_`, then letters, digits, `_`, as long as possible." Its classification, the join by `::`,
 -- and the comparison of names.
+use Prim.Native.Char.{code}
 use Prim.Native.Nat.{ℕ, zero, suc, _+_}
 use mathlib.Core.Bool.{Bool}
 use mathlib.Core.List.{List, [], _∷_}
@@ -35,7 +36,7 @@ identLength s =
 unfoldable pub twoColons : List ℕ → Bool
 twoColons [] = Bool.false
 twoColons (a ∷ []) = Bool.false
-twoColons (a ∷ b ∷ s) = and (eqb a 0x3A) (eqb b 0x3A)
+twoColons (a ∷ b ∷ s) = and (eqb a (code ":")) (eqb b (code ":"))
 
 -- "An IDENT followed at once by `::` and at once by another word that is an IDENT joins it into one token, repeatedly":
 -- how many bytes join the IDENT that stands before these. The first argument bounds the number of joins.
@@ -58,7 +59,7 @@ asName (a ∷ []) = a ∷ []
 asName (a ∷ b ∷ s) =
     let paired = asName s in
     let single = asName (b ∷ s) in
-    pick (twoColons (a ∷ b ∷ [])) (0x5F ∷ 0x5F ∷ paired) (a ∷ single)
+    pick (twoColons (a ∷ b ∷ [])) (code "_" ∷ code "_" ∷ paired) (a ∷ single)
 
 unfoldable pub sameName : List ℕ → List ℕ → Bool
 sameName v w = same (asName v) (asName w)

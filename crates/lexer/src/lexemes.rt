@@ -1,11 +1,11 @@
 // The lexeme at a place of a source.
+use crate::Class;
+use crate::Lexeme;
 use crate::bytes;
 use crate::kinds;
 use crate::marks;
 use crate::numbers;
 use crate::words;
-use crate::Class;
-use crate::Lexeme;
 ghost use mathlib.Core.Path.{_≡_};
 ghost use Prim.Native.Nat.{_<_};
 ghost use lib.ListN.{length, drop, getD};

@@ -1,23 +1,23 @@
 // From bytes to tokens: the tokeniser of NURL, proved to give exactly the tokens of the lexical rules in specs/.
-pub mod kinds;
 mod bytes;
-mod words;
-mod numbers;
-mod marks;
+pub mod kinds;
 mod lexemes;
+mod marks;
+mod numbers;
 mod table;
 mod tokens;
+mod words;
 
 pub use bytes::run_end;
 pub use lexemes::lexeme_at;
+pub use table::WIDTH;
 pub use table::kind_at;
 pub use table::length_at;
 pub use table::room;
 pub use table::start_at;
-pub use table::WIDTH;
+pub use tokens::SOURCE_LIMIT;
 pub use tokens::count_tokens;
 pub use tokens::tokenize;
-pub use tokens::SOURCE_LIMIT;
 
 // A class of bytes that a lexeme can go on over.
 pub enum Class {

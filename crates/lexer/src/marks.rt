@@ -1,7 +1,7 @@
 // Marks: the longest that fits.
+use crate::Lexeme;
 use crate::bytes;
 use crate::kinds;
-use crate::Lexeme;
 ghost use mathlib.Core.Path.{_≡_};
 ghost use mathlib.Core.List.{[], _∷_};
 ghost use lib.ListN.{drop};

@@ -1,17 +1,18 @@
 // Numbers: digits, a fraction, an exponent.
-use crate::bytes;
-use crate::kinds;
 use crate::Class;
 use crate::Lexeme;
+use crate::bytes;
+use crate::kinds;
 ghost use mathlib.Core.Path.{_≡_};
 ghost use Prim.Native.Nat.{_+_};
 ghost use lib.ListN.{drop};
-ghost use Rattle.lexer.specs.Numbers.{beginsWith, fraction, sign, exponent};
+ghost use Rattle.lexer.specs.Bytes.{beginsEither};
+ghost use Rattle.lexer.specs.Numbers.{fraction, sign, exponent};
 ghost use Rattle.lexer.specs.Lexemes.{unsignedNumber};
 
 // Whether one of two bytes stands at `at`.
 pub fn begins_with(source: &[u8], at: usize, a: u8, b: u8) -> bool
-    ensures { λ r. ⌜ r ≡ beginsWith a b (drop at (now (source .entry))) ⌝ }
+    ensures { λ r. ⌜ r ≡ beginsEither a b (drop at (now (source .entry))) ⌝ }
 {
     if at < source.len() {
         if source[at] == a {

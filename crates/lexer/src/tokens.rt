@@ -1,8 +1,8 @@
 // The passes over a whole source: one counts its tokens or finds its first fault, one fills a lent table.
-use crate::lexemes;
-use crate::table;
 use crate::Lexeme;
 use crate::Scanned;
+use crate::lexemes;
+use crate::table;
 ghost use mathlib.Core.Path.{_≡_};
 ghost use Prim.Native.Nat.{_+_, _*_, _≤_};
 ghost use lib.ListN.{length};

@@ -1,8 +1,8 @@
 // Words: where one ends, whether it is an IDENT, and the parts that `::` joins to it.
-use crate::bytes;
-use crate::kinds;
 use crate::Class;
 use crate::Lexeme;
+use crate::bytes;
+use crate::kinds;
 ghost use mathlib.Core.Path.{_≡_};
 ghost use Prim.Native.Nat.{_+_, _-_, _≤_};
 ghost use lib.ListN.{drop};

@@ -1,8 +1,8 @@
 // Checking a list of names: each entry is exactly one IDENT.
 use crate::Checked;
-use lexer::kinds;
 use lexer::Class;
 use lexer::Lexeme;
+use lexer::kinds;
 ghost use mathlib.Core.Path.{_≡_};
 ghost use Rattle.lexer.specs.Editions.{edition17};
 ghost use Rattle.typenames.specs.NameList.{isName, checked};

@@ -28,7 +28,10 @@ fn number_at(text: &[u8], at: usize) -> Number
             return Number { value, next: i + 1 };
         }
         if 2000000 < value {
-            return Number { value: 0, next: text.len() };
+            return Number {
+                value: 0,
+                next: text.len(),
+            };
         }
         value = value * 10 + (b - b'0') as usize;
         i += 1;
@@ -52,7 +55,13 @@ pub fn case_at(text: &[u8], at: usize) -> Case {
             room: room.value,
         };
     }
-    Case { piece: 1, times: 0, names: 0, end: 0, room: 0 }
+    Case {
+        piece: 1,
+        times: 0,
+        names: 0,
+        end: 0,
+        room: 0,
+    }
 }
 
 // What number `i` of a table holds before a case is run.

@@ -1,6 +1,7 @@
 // Runs the stored cases of standard input through the tokeniser and prints each answer with the whole token table.
 mod input;
 mod output;
+
 use lexer::Scanned;
 use typenames::Checked;
 ghost use mathlib.Core.Path.{_≡_};

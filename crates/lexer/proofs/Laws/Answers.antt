@@ -1,6 +1,6 @@
 -- The tokeniser's answer and table from the count of tokens, case by case, for any edition. Assumes nothing.
-use Prim.Native.Nat.{ℕ, _*_, _<_, _≤_}
-use mathlib.Core.Path.{_≡_, refl, sym, _∙_}
+use Prim.Native.Nat.{ℕ, _<_, _≤_}
+use mathlib.Core.Path.{_≡_, refl}
 use mathlib.Core.Bool.{Bool, true, false}
 use mathlib.Core.List.{List}
 use native.Mathlib.Omega.{arith}
@@ -10,7 +10,7 @@ use borrow.Author.Tests.{le-leb, lt-leb, ltb-false}
 use Rattle.lexer.specs.Tests.{pick}
 use Rattle.lexer.specs.Editions.{Edition}
 use Rattle.lexer.specs.Tokens.{Scan, clean, fault, scan}
-use Rattle.lexer.specs.Table.{sourceLimit, tokenWidth, tokenRoom, filled, tokensOf, scanned, counted, withRoom, tokenized, afterAnswer, tableAfter}
+use Rattle.lexer.specs.Table.{sourceLimit, tokenRoom, filled, tokensOf, scanned, counted, withRoom, tokenized, afterAnswer, tableAfter}
 use Rattle.lexer.specs.declared.Scanned.{Scanned}
 use Rattle.lexer.specs.declared.Scanned.the-variants.{Tokens, Refused}
 
@@ -32,7 +32,7 @@ clean-scan (fault number place) n h = let z : _≡_ {A = ℕ} 0 1 = cc in absurd
 
 module _ (e : Edition) (s : List ℕ) where
   counted-by : (n : ℕ) (t : Bool) → ltb sourceLimit (length s) ≡ t
-    → pick t (Refused 1 0) (scanned (scan e s)) ≡ Tokens n → Clean e s n
+      → pick t (Refused 1 0) (scanned (scan e s)) ≡ Tokens n → Clean e s n
   counted-by n true q h = let z : _≡_ {A = ℕ} 0 1 = cc in absurd (omega arith)
   counted-by n false q h =
       let c = clean-scan (scan e s) n h in
@@ -44,7 +44,7 @@ module _ (e : Edition) (s : List ℕ) where
 
   module _ (table : List ℕ) where
     pub answer-refused : (number place : ℕ) → counted e s ≡ Refused number place
-      → Answered e s table (Refused number place) table
+        → Answered e s table (Refused number place) table
     unfolding tokenized withRoom tableAfter afterAnswer
     answer-refused number place h = record { says = rw h; leaves = rw h }
 
@@ -53,6 +53,6 @@ module _ (e : Edition) (s : List ℕ) where
     answer-full n h full = record { says = rw (h, lt-leb _ _ full); leaves = rw (h, lt-leb _ _ full) }
 
     pub answer-tokens : (n : ℕ) → counted e s ≡ Tokens n → n ≤ tokenRoom table
-      → Answered e s table (Tokens n) (filled (tokensOf (scan e s)) table)
+        → Answered e s table (Tokens n) (filled (tokensOf (scan e s)) table)
     unfolding tokenized withRoom tableAfter afterAnswer
     answer-tokens n h fits = record { says = rw (h, le-leb _ _ fits); leaves = rw (h, le-leb _ _ fits) }

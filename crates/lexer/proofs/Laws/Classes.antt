@@ -1,5 +1,6 @@
 -- What the class of a byte tells of the tests that the lexical rules ask, each by one computed test over all bytes.
 -- Assumes nothing.
+use Prim.Native.Char.{code}
 use Prim.Native.Nat.{ℕ, _<_}
 use mathlib.Core.Path.{_≡_, refl}
 use mathlib.Core.Bool.{Bool, true, false}
@@ -24,7 +25,7 @@ agreed false false t = refl
 
 -- one class against one test
 class-test : (k : ℕ) (f : ℕ → Bool) → T (all (λ b. agree (eqb (classOf b) k) (f b)) 256)
-  → (b : ℕ) → b < 256 → eqb (classOf b) k ≡ f b
+    → (b : ℕ) → b < 256 → eqb (classOf b) k ≡ f b
 class-test k f t b h = agreed _ _ (all-at (λ b. agree (eqb (classOf b) k) (f b)) 256 t b h)
 
 pub class-digit : (b : ℕ) → b < 256 → eqb (classOf b) 0 ≡ isDigit b
@@ -39,17 +40,17 @@ pub class-space : (b : ℕ) → b < 256 → eqb (classOf b) 2 ≡ isSpace b
 unfolding agree classOf and or between isDigit isLetter isSpace
 class-space = class-test 2 isSpace tt
 
-pub class-minus : (b : ℕ) → b < 256 → eqb (classOf b) 3 ≡ eqb b 0x2D
+pub class-minus : (b : ℕ) → b < 256 → eqb (classOf b) 3 ≡ eqb b (code "-")
 unfolding agree classOf and or between isDigit isLetter isSpace
-class-minus = class-test 3 (λ b. eqb b 0x2D) tt
+class-minus = class-test 3 (λ b. eqb b (code "-")) tt
 
-pub class-slash : (b : ℕ) → b < 256 → eqb (classOf b) 4 ≡ eqb b 0x2F
+pub class-slash : (b : ℕ) → b < 256 → eqb (classOf b) 4 ≡ eqb b (code "/")
 unfolding agree classOf and or between isDigit isLetter isSpace
-class-slash = class-test 4 (λ b. eqb b 0x2F) tt
+class-slash = class-test 4 (λ b. eqb b (code "/")) tt
 
-pub class-backtick : (b : ℕ) → b < 256 → eqb (classOf b) 5 ≡ eqb b 0x60
+pub class-backtick : (b : ℕ) → b < 256 → eqb (classOf b) 5 ≡ eqb b (code "`")
 unfolding agree classOf and or between isDigit isLetter isSpace
-class-backtick = class-test 5 (λ b. eqb b 0x60) tt
+class-backtick = class-test 5 (λ b. eqb b (code "`")) tt
 
 pub class-word : (b : ℕ) → b < 256 → leb (classOf b) 1 ≡ isWordByte b
 unfolding agree classOf and or between isDigit isLetter isSpace isWordByte

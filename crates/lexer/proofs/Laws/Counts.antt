@@ -1,14 +1,14 @@
 -- Counting the tokens of a source, lexeme by lexeme, for edition 1.7. Assumes nothing.
-use Prim.Native.Nat.{ℕ, zero, suc, _+_, _<_, _≤_}
-use mathlib.Core.Path.{_≡_, refl, sym, _∙_, ap}
+use Prim.Native.Nat.{ℕ, _+_, _<_, _≤_}
+use mathlib.Core.Path.{_≡_, refl, _∙_, ap}
 use mathlib.Core.Bool.{true}
-use mathlib.Core.List.{List, [], _∷_}
+use mathlib.Core.List.{List}
 use native.Mathlib.Omega.{arith}
-use native.Mathlib.Nat.{zero-add, add-zero, add-assoc}
+use native.Mathlib.Nat.{zero-add, add-zero}
 use lib.ListN.{length, drop, length-drop}
 use Rattle.lexer.specs.Tests.{and}
 use Rattle.lexer.specs.Spellings.{commonMarks, shiftMarks}
-use Rattle.lexer.specs.Editions.{Edition, edition17}
+use Rattle.lexer.specs.Editions.{edition17}
 use Rattle.lexer.specs.Lexemes.{lexeme}
 use Rattle.lexer.specs.Tokens.{Token, Scan, clean, fault, withToken, scan}
 use Rattle.lexer.specs.Table.{scanned}

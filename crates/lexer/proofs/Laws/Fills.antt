@@ -80,7 +80,7 @@ module _ (s table₀ : List ℕ) where
       fill-inside = head .inside
 
       pub fill-token : length (tokensOf (scan edition17 s)) * tokenWidth ≤ length table₀
-        → Filling s table₀ (sets table (row * tokenWidth) (k ∷ at ∷ n ∷ [])) (at + n) (row + 1)
+          → Filling s table₀ (sets table (row * tokenWidth) (k ∷ at ∷ n ∷ [])) (at + n) (row + 1)
       unfolding token
       fill-token room =
           let all = tokensOf (scan edition17 s) in
@@ -91,7 +91,7 @@ module _ (s table₀ : List ℕ) where
           record {
             left = first .then ∙ rw add-one (ap clean (sym (head .after)));
             rows = omega arith;
-            holds = rw (so-far .holds) (put ∙ ap (λ (x : List Token). filled x table₀) next)
+            holds = rw (so-far .holds) (put ∙ ap (λ (x : List Token). filled x table₀) next);
           }
 
     pub fill-end : lexeme edition17 (drop at s) ≡ End → table ≡ filled (tokensOf (scan edition17 s)) table₀

@@ -1,6 +1,6 @@
 -- The first bytes of a list from a place on. Assumes nothing.
-use Prim.Native.Nat.{ℕ, suc, _+_, _≤_, _<_}
-use mathlib.Core.Path.{_≡_, refl}
+use Prim.Native.Nat.{ℕ, _+_, _≤_, _<_}
+use mathlib.Core.Path.{_≡_}
 use mathlib.Core.List.{List, [], _∷_}
 use lib.ListN.{length, drop, getD, drop-of-length-le}
 use lib.Seq.{drop-cons}
@@ -29,7 +29,7 @@ module _ (s : List ℕ) (at : ℕ) where
 
 module _ (s : List ℕ) (at : ℕ) where
   pub front-three : at + 2 < length s
-    → drop at s ≡ getD s at 0 ∷ getD s (at + 1) 0 ∷ getD s (at + 2) 0 ∷ drop (at + 3) s
+      → drop at s ≡ getD s at 0 ∷ getD s (at + 1) 0 ∷ getD s (at + 2) 0 ∷ drop (at + 3) s
   front-three h =
       let below : at + 1 < length s = omega arith in
       rw (front-two s at below, front-one s (at + 2) h, add-assoc)

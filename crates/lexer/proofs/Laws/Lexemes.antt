@@ -1,31 +1,30 @@
 -- Which rule gives the lexeme, by the class of the first byte. Assumes nothing.
+use Prim.Native.Char.{code}
 use Prim.Native.Nat.{ℕ, zero, suc, _+_, _<_, _≤_}
-use mathlib.Core.Path.{_≡_, refl, sym, _∙_, ap}
+use mathlib.Core.Path.{_≡_, refl, sym, _∙_}
 use mathlib.Core.Bool.{Bool, true, false}
 use mathlib.Core.List.{List, [], _∷_}
 use native.Mathlib.Omega.{arith}
 use native.Mathlib.Nat.{add-assoc}
 use lib.Dec.{eqb, ltb}
 use borrow.Author.Tests.{ne-eqb, lt-ltb, le-ltb}
-use lib.ListN.{length, take, drop, getD, length-drop}
+use lib.ListN.{length, drop, getD, length-drop}
 use lib.Seq.{drop-drop}
 use Rattle.lexer.specs.Tests.{and, or, pick}
 use Rattle.lexer.specs.Kinds.{ident, string, minus, slash}
-use Rattle.lexer.specs.Bytes.{isSpace, isDigit, isLetter, isInLine, isInString, run}
+use Rattle.lexer.specs.Bytes.{isSpace, isDigit, isLetter, isInLine, isInString, run, beginsEither}
 use Rattle.lexer.specs.Spellings.{same, kindOf, longest, commonMarks, shiftMarks}
 use Rattle.lexer.specs.Editions.{Edition, edition17}
-use Rattle.lexer.specs.Words.{wordLength, wordKind, joins}
-use Rattle.lexer.specs.Numbers.{digits, beginsWith, fraction}
+use Rattle.lexer.specs.Words.{joins}
 use Rattle.lexer.specs.Lexemes.{skippedSpaces, spaces, comment, wordOf, word, numberOf, unsignedNumber, withMinus, number, text, markOf, markUpTo, mark, orElse, lexeme}
 use Rattle.lexer.specs.Leaves.{classOf}
 use Rattle.lexer.specs.declared.Lexeme.{Lexeme}
-use Rattle.lexer.specs.declared.Lexeme.the-variants.{End, Skipped, Token, BadByte, OpenString}
+use Rattle.lexer.specs.declared.Lexeme.the-variants.{Skipped, Token, BadByte, OpenString}
 use Rattle.lexer.proofs.Laws.Tests.{and-false}
 use Rattle.lexer.proofs.Laws.Classes.{class-digit, class-letter, class-space, class-minus, class-slash, class-backtick}
 use Rattle.lexer.proofs.Laws.Fronts.{front-one}
 use Rattle.lexer.proofs.Laws.Runs.{run-pass, run-stop}
 use Rattle.lexer.proofs.Laws.Words.{word-letter, word-none}
-use Rattle.lexer.proofs.Laws.Marks.{mark-nil}
 
 -- where a rule fits, no later one is asked
 pub spaces-first : (n : ℕ) (other : Lexeme) → 0 < n → orElse (skippedSpaces n) other ≡ skippedSpaces n
@@ -39,7 +38,7 @@ word-first zero k t other h = absurd (omega arith)
 word-first (suc n) k t other h = either (eqb k ident)
   where
     either : (q : Bool) → orElse (pick q (Token k (suc n + joins (drop (suc n) t))) (Token k (suc n))) other
-      ≡ pick q (Token k (suc n + joins (drop (suc n) t))) (Token k (suc n))
+        ≡ pick q (Token k (suc n + joins (drop (suc n) t))) (Token k (suc n))
     either true = refl
     either false = refl
 
@@ -51,29 +50,29 @@ number-first (suc n) (suc f) t other h = refl
 
 -- what a first byte that a rule does not begin with says of the rule
 module _ (b : ℕ) (t : List ℕ) where
-  no-spaces : isSpace b ≡ false → spaces (b ∷ t) ≡ BadByte
+  pub no-spaces : isSpace b ≡ false → spaces (b ∷ t) ≡ BadByte
   unfolding spaces skippedSpaces
   no-spaces h = rw (run-stop isSpace b t h)
 
-  no-comment : eqb b 0x2F ≡ false → comment (b ∷ t) ≡ BadByte
-  unfolding comment beginsWith and or
+  pub no-comment : eqb b (code "/") ≡ false → comment (b ∷ t) ≡ BadByte
+  unfolding comment beginsEither and or
   no-comment h = rw h
 
-  no-word : isLetter b ≡ false → word (b ∷ t) ≡ BadByte
+  pub no-word : isLetter b ≡ false → word (b ∷ t) ≡ BadByte
   unfolding word wordOf
   no-word h = rw (word-none b t h)
 
-  no-digits : isDigit b ≡ false → unsignedNumber (b ∷ t) ≡ BadByte
+  pub no-digits : isDigit b ≡ false → unsignedNumber (b ∷ t) ≡ BadByte
   unfolding unsignedNumber numberOf
   no-digits h = rw (run-stop isDigit b t h)
 
-  no-text : eqb b 0x60 ≡ false → text (b ∷ t) ≡ BadByte
-  unfolding text beginsWith or
+  pub no-text : eqb b (code "`") ≡ false → text (b ∷ t) ≡ BadByte
+  unfolding text beginsEither or
   no-text h = rw h
 
 module _ (e : Edition) (b : ℕ) (t : List ℕ) where
-  plain-number : eqb b 0x2D ≡ false → number e (b ∷ t) ≡ unsignedNumber (b ∷ t)
-  unfolding number beginsWith or
+  plain-number : eqb b (code "-") ≡ false → number e (b ∷ t) ≡ unsignedNumber (b ∷ t)
+  unfolding number beginsEither or
   plain-number h = rw (h, and-false)
 
 -- the class of the first byte decides the rule
@@ -89,13 +88,13 @@ module _ (e : Edition) (b : ℕ) (t : List ℕ) (byte : b < 256) where
     is-digit : isDigit b ≡ eqb k 0
     is-digit = sym (rw c at (class-digit b byte))
 
-    is-minus : eqb b 0x2D ≡ eqb k 3
+    is-minus : eqb b (code "-") ≡ eqb k 3
     is-minus = sym (rw c at (class-minus b byte))
 
-    is-slash : eqb b 0x2F ≡ eqb k 4
+    is-slash : eqb b (code "/") ≡ eqb k 4
     is-slash = sym (rw c at (class-slash b byte))
 
-    is-backtick : eqb b 0x60 ≡ eqb k 5
+    is-backtick : eqb b (code "`") ≡ eqb k 5
     is-backtick = sym (rw c at (class-backtick b byte))
 
   pub lexeme-space : classOf b ≡ 2 → lexeme e (b ∷ t) ≡ spaces (b ∷ t)
@@ -130,24 +129,26 @@ module _ (e : Edition) (b : ℕ) (t : List ℕ) (byte : b < 256) where
       rw (no-spaces b t (is-space 5 c), no-comment b t (is-slash 5 c), no-word b t (is-letter 5 c), plain-number e b t (is-minus 5 c), no-digits b t (is-digit 5 c))
 
   pub lexeme-mark : (classOf b ≡ 0 → ⊥) → (classOf b ≡ 1 → ⊥) → (classOf b ≡ 2 → ⊥) → (classOf b ≡ 3 → ⊥)
-    → (classOf b ≡ 4 → ⊥) → (classOf b ≡ 5 → ⊥) → lexeme e (b ∷ t) ≡ mark e (b ∷ t)
+      → (classOf b ≡ 4 → ⊥) → (classOf b ≡ 5 → ⊥) → lexeme e (b ∷ t) ≡ mark e (b ∷ t)
   unfolding lexeme orElse
   lexeme-mark c0 c1 c2 c3 c4 c5 =
-      rw (no-spaces b t (sym (class-space b byte) ∙ ne-eqb _ _ c2),
+      rw (
+        no-spaces b t (sym (class-space b byte) ∙ ne-eqb _ _ c2),
         no-comment b t (sym (class-slash b byte) ∙ ne-eqb _ _ c4),
         no-word b t (sym (class-letter b byte) ∙ ne-eqb _ _ c1),
         plain-number e b t (sym (class-minus b byte) ∙ ne-eqb _ _ c3),
         no-digits b t (sym (class-digit b byte) ∙ ne-eqb _ _ c0),
-        no-text b t (sym (class-backtick b byte) ∙ ne-eqb _ _ c5))
+        no-text b t (sym (class-backtick b byte) ∙ ne-eqb _ _ c5),
+      )
 
 -- `-` and `/` begin no longer mark
-pub mark-minus : (t : List ℕ) → mark edition17 (0x2D ∷ t) ≡ Token minus 1
+pub mark-minus : (t : List ℕ) → mark edition17 (code "-" ∷ t) ≡ Token minus 1
 unfolding and mark markUpTo markOf kindOf same commonMarks shiftMarks longest
 mark-minus [] = refl
 mark-minus (b ∷ []) = simp and-false
 mark-minus (b ∷ c ∷ t) = simp and-false
 
-pub mark-slash : (t : List ℕ) → mark edition17 (0x2F ∷ t) ≡ Token slash 1
+pub mark-slash : (t : List ℕ) → mark edition17 (code "/" ∷ t) ≡ Token slash 1
 unfolding and mark markUpTo markOf kindOf same commonMarks shiftMarks longest
 mark-slash [] = refl
 mark-slash (b ∷ []) = simp and-false
@@ -168,54 +169,54 @@ unfolding spaces
 spaces-some t h = spaces-of (run isSpace t) h
 
 module _ (s : List ℕ) (at : ℕ) (inside : at < length s) where
-  module _ (here : getD s at 0 ≡ 0x60) where
-    opened : drop at s ≡ 0x60 ∷ drop (at + 1) s
+  module _ (here : getD s at 0 ≡ code "`") where
+    opened : drop at s ≡ code "`" ∷ drop (at + 1) s
     opened = rw here at (front-one s at inside)
 
     pub string-closed : at + 1 + run isInString (drop (at + 1) s) < length s
-      → text (drop at s) ≡ Token string (2 + run isInString (drop (at + 1) s))
-    unfolding text beginsWith or
+        → text (drop at s) ≡ Token string (2 + run isInString (drop (at + 1) s))
+    unfolding text beginsEither or
     string-closed h =
         let l = length-drop (at + 1) s in
         rw (opened, lt-ltb (1 + run isInString (drop (at + 1) s)) (suc (length (drop (at + 1) s))) (omega arith))
 
     pub string-open : length s ≤ at + 1 + run isInString (drop (at + 1) s) → text (drop at s) ≡ OpenString
-    unfolding text beginsWith or
+    unfolding text beginsEither or
     string-open h =
         let l = length-drop (at + 1) s in
         rw (opened, le-ltb (1 + run isInString (drop (at + 1) s)) (suc (length (drop (at + 1) s))) (omega arith))
 
     pub string-first : (other : Lexeme) → orElse (text (drop at s)) other ≡ text (drop at s)
-    unfolding text beginsWith or orElse
-    string-first other = rw opened (either (ltb (1 + run isInString (drop (at + 1) s)) (length (0x60 ∷ drop (at + 1) s))))
+    unfolding text beginsEither or orElse
+    string-first other = rw opened (either (ltb (1 + run isInString (drop (at + 1) s)) (length (code "`" ∷ drop (at + 1) s))))
       where
         either : (q : Bool) → orElse (pick q (Token string (2 + run isInString (drop (at + 1) s))) OpenString) other
-          ≡ pick q (Token string (2 + run isInString (drop (at + 1) s))) OpenString
+            ≡ pick q (Token string (2 + run isInString (drop (at + 1) s))) OpenString
         either true = refl
         either false = refl
 
-  module _ (here : getD s at 0 ≡ 0x2F) where
-    slashed : drop at s ≡ 0x2F ∷ drop (at + 1) s
+  module _ (here : getD s at 0 ≡ code "/") where
+    slashed : drop at s ≡ code "/" ∷ drop (at + 1) s
     slashed = rw here at (front-one s at inside)
 
-    pub comment-found : beginsWith 0x2F 0x2F (drop (at + 1) s) ≡ true
-      → comment (drop at s) ≡ Skipped (2 + run isInLine (drop (at + 2) s))
-    unfolding comment beginsWith and or
+    pub comment-found : beginsEither (code "/") (code "/") (drop (at + 1) s) ≡ true
+        → comment (drop at s) ≡ Skipped (2 + run isInLine (drop (at + 2) s))
+    unfolding comment beginsEither and or
     comment-found h = rw (slashed, h, drop-drop 1 (at + 1) s, add-assoc at 1 1)
 
-    pub comment-lost : beginsWith 0x2F 0x2F (drop (at + 1) s) ≡ false → comment (drop at s) ≡ BadByte
-    unfolding comment beginsWith and or
+    pub comment-lost : beginsEither (code "/") (code "/") (drop (at + 1) s) ≡ false → comment (drop at s) ≡ BadByte
+    unfolding comment beginsEither and or
     comment-lost h = rw (slashed, h)
 
     pub slash-mark : mark edition17 (drop at s) ≡ Token slash 1
     slash-mark = rw slashed (mark-slash _)
 
-  module _ (here : getD s at 0 ≡ 0x2D) where
-    minused : drop at s ≡ 0x2D ∷ drop (at + 1) s
+  module _ (here : getD s at 0 ≡ code "-") where
+    minused : drop at s ≡ code "-" ∷ drop (at + 1) s
     minused = rw here at (front-one s at inside)
 
     pub minus-number : number edition17 (drop at s) ≡ withMinus (unsignedNumber (drop (at + 1) s))
-    unfolding number beginsWith and or
+    unfolding number beginsEither and or
     minus-number = rw minused
 
     pub minus-mark : mark edition17 (drop at s) ≡ Token minus 1

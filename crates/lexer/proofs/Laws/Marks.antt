@@ -1,9 +1,8 @@
 -- The longest mark at the front of one, two or three bytes, from the kinds of the bytes' beginnings. Assumes nothing.
 use Prim.Native.Nat.{ℕ, zero, suc}
-use mathlib.Core.Path.{_≡_, refl, sym, _∙_}
+use mathlib.Core.Path.{_≡_, refl, _∙_}
 use mathlib.Core.List.{List, [], _∷_}
 use native.Mathlib.Omega.{arith}
-use lib.ListN.{length, take}
 use Rattle.lexer.specs.Tests.{and}
 use Rattle.lexer.specs.Spellings.{same, kindOf, longest, commonMarks, shiftMarks}
 use Rattle.lexer.specs.Editions.{edition17}
@@ -59,7 +58,7 @@ module _ (a b : ℕ) where
 
 module _ (a b c : ℕ) where
   pub three-found : (kind17 (a ∷ b ∷ c ∷ []) ≡ 0 → ⊥)
-    → mark edition17 (a ∷ b ∷ c ∷ []) ≡ Token (kind17 (a ∷ b ∷ c ∷ [])) 3
+      → mark edition17 (a ∷ b ∷ c ∷ []) ≡ Token (kind17 (a ∷ b ∷ c ∷ [])) 3
   unfolding mark markUpTo
   three-found h = rw (longest17, mark-found _ _ _ h)
 

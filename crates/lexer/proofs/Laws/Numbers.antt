@@ -1,15 +1,15 @@
 -- Fractions, signs and exponents at a place of a list, as the tokeniser finds them. Assumes nothing.
-use Prim.Native.Nat.{ℕ, zero, suc, _+_, _≤_, _<_}
-use mathlib.Core.Path.{_≡_, refl, sym, _∙_, ap}
-use mathlib.Core.Bool.{Bool, true, false}
+use Prim.Native.Char.{code}
+use Prim.Native.Nat.{ℕ, zero, suc, _+_, _<_}
+use mathlib.Core.Path.{_≡_, refl, sym}
+use mathlib.Core.Bool.{true, false}
 use mathlib.Core.List.{List, [], _∷_}
 use native.Mathlib.Omega.{arith}
 use native.Mathlib.Nat.{not-suc-le-zero, add-assoc}
-use lib.Dec.{eqb}
 use lib.ListN.{length, drop}
 use lib.Seq.{drop-drop}
-use Rattle.lexer.specs.Tests.{or, pick}
-use Rattle.lexer.specs.Numbers.{digits, beginsWith, withDigits, fraction, sign, exponent}
+use Rattle.lexer.specs.Bytes.{beginsEither}
+use Rattle.lexer.specs.Numbers.{digits, withDigits, fraction, sign, exponent}
 use Rattle.lexer.specs.Kinds.{int, float}
 use Rattle.lexer.specs.Lexemes.{numberOf, unsignedNumber}
 use Rattle.lexer.specs.declared.Lexeme.the-variants.{Token, BadByte}
@@ -38,41 +38,41 @@ float-of (suc n) zero t h g = absurd (not-suc-le-zero g)
 float-of (suc n) (suc f) t h g = refl
 
 -- where a byte stands, the list goes on
-begins-inside-by : (a b : ℕ) (t : List ℕ) → beginsWith a b t ≡ true → 0 < length t
-unfolding beginsWith
+begins-inside-by : (a b : ℕ) (t : List ℕ) → beginsEither a b t ≡ true → 0 < length t
+unfolding beginsEither
 begins-inside-by a b [] h = let z : _≡_ {A = ℕ} 0 1 = cc in absurd (omega arith)
 begins-inside-by a b (c ∷ t) h = omega arith
 
 module _ (s : List ℕ) (at : ℕ) where
-  pub begins-inside : (a b : ℕ) → beginsWith a b (drop at s) ≡ true → at < length s
+  pub begins-inside : (a b : ℕ) → beginsEither a b (drop at s) ≡ true → at < length s
   begins-inside a b h =
       let l = begins-inside-by a b (drop at s) h in
       let e = lib.ListN.length-drop at s in
       omega arith
 
-  pub fraction-none : beginsWith 0x2E 0x2E (drop at s) ≡ false → fraction (drop at s) ≡ 0
+  pub fraction-none : beginsEither (code ".") (code ".") (drop at s) ≡ false → fraction (drop at s) ≡ 0
   unfolding fraction
   fraction-none h = rw h
 
   pub fraction-lost : digits (drop (at + 1) s) ≡ 0 → fraction (drop at s) ≡ 0
   unfolding fraction
-  fraction-lost d = rw (drop-drop, with-none 1 (digits (drop (at + 1) s)) d) (pick-same (beginsWith 0x2E 0x2E (drop at s)) 0)
+  fraction-lost d = rw (drop-drop, with-none 1 (digits (drop (at + 1) s)) d) (pick-same (beginsEither (code ".") (code ".") (drop at s)) 0)
 
-  pub fraction-found : beginsWith 0x2E 0x2E (drop at s) ≡ true → 0 < digits (drop (at + 1) s)
-    → at + fraction (drop at s) ≡ at + 1 + digits (drop (at + 1) s)
+  pub fraction-found : beginsEither (code ".") (code ".") (drop at s) ≡ true → 0 < digits (drop (at + 1) s)
+      → at + fraction (drop at s) ≡ at + 1 + digits (drop (at + 1) s)
   unfolding fraction
   fraction-found h d = rw (h, drop-drop, with-some 1 (digits (drop (at + 1) s)) d) (sym (add-assoc at 1 _))
 
-  pub sign-some : beginsWith 0x2B 0x2D (drop at s) ≡ true → sign (drop at s) ≡ 1
+  pub sign-some : beginsEither (code "+") (code "-") (drop at s) ≡ true → sign (drop at s) ≡ 1
   unfolding sign
   sign-some h = rw h
 
-  pub sign-none : beginsWith 0x2B 0x2D (drop at s) ≡ false → sign (drop at s) ≡ 0
+  pub sign-none : beginsEither (code "+") (code "-") (drop at s) ≡ false → sign (drop at s) ≡ 0
   unfolding sign
   sign-none h = rw h
 
 module _ (s : List ℕ) (at : ℕ) where
-  pub exponent-none : beginsWith 0x65 0x45 (drop at s) ≡ false → exponent (drop at s) ≡ 0
+  pub exponent-none : beginsEither (code "e") (code "E") (drop at s) ≡ false → exponent (drop at s) ≡ 0
   unfolding exponent
   exponent-none h = rw h
 
@@ -86,11 +86,11 @@ module _ (s : List ℕ) (at : ℕ) where
 
   pub exponent-lost : digits (drop (at + 1 + sign (drop (at + 1) s)) s) ≡ 0 → exponent (drop at s) ≡ 0
   unfolding exponent from
-  exponent-lost d = rw (drop-drop 1 at s, drop-drop, place, with-none (1 + sign (drop (at + 1) s)) (digits (drop from s)) d) (pick-same (beginsWith 0x65 0x45 (drop at s)) 0)
+  exponent-lost d = rw (drop-drop 1 at s, drop-drop, place, with-none (1 + sign (drop (at + 1) s)) (digits (drop from s)) d) (pick-same (beginsEither (code "e") (code "E") (drop at s)) 0)
 
-  pub exponent-found : beginsWith 0x65 0x45 (drop at s) ≡ true
-    → 0 < digits (drop (at + 1 + sign (drop (at + 1) s)) s)
-    → at + exponent (drop at s) ≡ at + 1 + sign (drop (at + 1) s) + digits (drop (at + 1 + sign (drop (at + 1) s)) s)
+  pub exponent-found : beginsEither (code "e") (code "E") (drop at s) ≡ true
+      → 0 < digits (drop (at + 1 + sign (drop (at + 1) s)) s)
+      → at + exponent (drop at s) ≡ at + 1 + sign (drop (at + 1) s) + digits (drop (at + 1 + sign (drop (at + 1) s)) s)
   unfolding exponent from
   exponent-found h d = rw (h, drop-drop 1 at s, drop-drop, place, with-some (1 + sign (drop (at + 1) s)) (digits (drop from s)) d) (omega arith)
 
@@ -101,13 +101,13 @@ module _ (s : List ℕ) (at : ℕ) where
   no-number h = rw h
 
   pub whole-number : 0 < digits (drop at s) → fraction (drop (at + digits (drop at s)) s) ≡ 0
-    → unsignedNumber (drop at s) ≡ Token int (digits (drop at s))
+      → unsignedNumber (drop at s) ≡ Token int (digits (drop at s))
   unfolding unsignedNumber
   whole-number h f = rw (drop-drop, f) (int-of (digits (drop at s)) (drop at s) h)
 
   pub float-number : 0 < digits (drop at s) → 0 < fraction (drop (at + digits (drop at s)) s)
-    → unsignedNumber (drop at s)
-    ≡ Token float (digits (drop at s) + fraction (drop (at + digits (drop at s)) s)
+      → unsignedNumber (drop at s)
+      ≡ Token float (digits (drop at s) + fraction (drop (at + digits (drop at s)) s)
       + exponent (drop (at + digits (drop at s) + fraction (drop (at + digits (drop at s)) s)) s))
   unfolding unsignedNumber
   float-number h f =

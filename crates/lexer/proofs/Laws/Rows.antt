@@ -1,11 +1,10 @@
 -- The rows of the token table: how long they are, and how one more is written. Assumes nothing.
-use Prim.Native.Nat.{ℕ, zero, suc, _+_, _*_, _<_, _≤_}
-use mathlib.Core.Path.{_≡_, refl, sym, _∙_, ap}
+use Prim.Native.Nat.{ℕ, _+_, _*_, _≤_}
+use mathlib.Core.Path.{_≡_, refl, _∙_}
 use mathlib.Core.List.{List, [], _∷_, _++_, append-assoc}
 use native.Mathlib.Omega.{arith}
-use native.Mathlib.Numerals.{add-one}
-use lib.ListN.{length, take, drop, getD, length-append, length-drop}
-use lib.Seq.{sets, sets-eq, take-at, drop-append-le, drop-drop, take-suc, drop-append-add, length-take-le}
+use lib.ListN.{length, drop, length-append, length-drop}
+use lib.Seq.{sets, sets-eq, take-at, drop-drop, drop-append-add}
 use Rattle.lexer.specs.Tokens.{Token}
 use Rattle.lexer.specs.Table.{tokenWidth, tokenRow, tokenRows, filled}
 
@@ -44,7 +43,7 @@ module _ (ts : List Token) (t : Token) (table : List ℕ) where
   more-rows = let l = length-append ts (t ∷ []) in omega arith
 
   pub filled-more : (length ts + 1) * tokenWidth ≤ length table
-    → sets (filled ts table) (length ts * tokenWidth) (t .kind ∷ t .start ∷ t .length ∷ []) ≡ filled (ts ++ (t ∷ [])) table
+      → sets (filled ts table) (length ts * tokenWidth) (t .kind ∷ t .start ∷ t .length ∷ []) ≡ filled (ts ++ (t ∷ [])) table
   unfolding filled tokenRow tokenRows
   filled-more room =
       let n = length ts * tokenWidth in

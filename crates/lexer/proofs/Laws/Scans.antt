@@ -1,6 +1,6 @@
 -- The token list of a source, lexeme by lexeme: what it is from a place on. Assumes nothing.
 use Prim.Native.Nat.{ℕ, zero, suc, _+_, _<_, _≤_}
-use mathlib.Core.Path.{_≡_, refl, sym, _∙_, ap}
+use mathlib.Core.Path.{_≡_, refl, _∙_, ap}
 use mathlib.Core.Bool.{true}
 use mathlib.Core.List.{List, [], _∷_}
 use native.Mathlib.Omega.{arith}
@@ -64,7 +64,7 @@ module _ (e : Edition) (good : spelled (e .marks) ≡ true) (s : List ℕ) (at :
   scan-skip n h = rw (lexemes-step e good (drop at s), h, drop-drop)
 
   pub scan-token : (k n : ℕ) → lexeme e (drop at s) ≡ Lexeme.Token k n
-    → scanFrom e s at ≡ withToken (record { kind = k; start = at; length = n }) (scanFrom e s (at + n))
+      → scanFrom e s at ≡ withToken (record { kind = k; start = at; length = n }) (scanFrom e s (at + n))
   unfolding scanFrom follow located size
   scan-token k n h = rw (lexemes-step e good (drop at s), h, drop-drop)
 

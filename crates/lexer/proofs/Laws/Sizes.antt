@@ -1,21 +1,21 @@
 -- Every lexeme that takes bytes takes at least one and no more than there are, and a token's kind is one of the kinds.
 -- Assumes nothing.
-use Prim.Native.Nat.{ℕ, zero, suc, _+_, _-_, _<_, _≤_, min, max, zero-le, suc-le-suc}
-use mathlib.Core.Path.{_≡_, refl, sym, _∙_, ap, subst}
+use Prim.Native.Char.{code}
+use Prim.Native.Nat.{ℕ, zero, suc, _+_, _<_, _≤_, zero-le}
+use mathlib.Core.Path.{_≡_, refl, sym, _∙_}
 use mathlib.Core.Bool.{Bool, true, false}
 use mathlib.Core.List.{List, [], _∷_}
 use native.Mathlib.Omega.{arith}
-use native.Mathlib.Nat.{not-suc-le-zero}
-use lib.Dec.{T, eqb, ltb, leb, leb→le}
+use lib.Dec.{eqb, ltb, leb}
 use lib.ListN.{length, take, drop, length-drop, length-take}
 use borrow.Author.Tests.{ltb-true, leb-true}
-use Rattle.lexer.specs.Tests.{and, or, pick, between}
+use Rattle.lexer.specs.Tests.{and, or, pick}
 use Rattle.lexer.specs.Kinds.{ident, int, float, string, firstKind, lastKind}
-use Rattle.lexer.specs.Bytes.{isSpace, isDigit, isInLine, isInString, run}
+use Rattle.lexer.specs.Bytes.{isSpace, isDigit, isInLine, isInString, run, beginsEither}
 use Rattle.lexer.specs.Spellings.{Spelling, same, kindOf, longest, reserved}
 use Rattle.lexer.specs.Editions.{Edition}
 use Rattle.lexer.specs.Words.{wordLength, orIdent, wordKind, identLength, twoColons, joinsWithin, joins}
-use Rattle.lexer.specs.Numbers.{digits, beginsWith, withDigits, fraction, sign, exponent}
+use Rattle.lexer.specs.Numbers.{digits, withDigits, fraction, sign, exponent}
 use Rattle.lexer.specs.Lexemes.{skippedSpaces, spaces, comment, wordOf, word, numberOf, unsignedNumber, withMinus, number, text, markOf, markUpTo, mark, orElse, lexeme}
 use Rattle.lexer.specs.declared.Lexeme.{Lexeme}
 use Rattle.lexer.specs.declared.Lexeme.the-variants.{End, Skipped, Token, BadByte, OpenString}
@@ -63,13 +63,13 @@ unfolding spaces
 proper-spaces s = proper-spaces-of s (run isSpace s) (run-le isSpace s)
 
 -- both tests of a comment show a byte
-proper-comment-by : (s : List ℕ) (t : Bool) → and (beginsWith 0x2F 0x2F s) (beginsWith 0x2F 0x2F (drop 1 s)) ≡ t
-  → Proper s (pick t (Skipped (2 + run isInLine (drop 2 s))) BadByte)
-unfolding beginsWith and or
+proper-comment-by : (s : List ℕ) (t : Bool) → and (beginsEither (code "/") (code "/") s) (beginsEither (code "/") (code "/") (drop 1 s)) ≡ t
+    → Proper s (pick t (Skipped (2 + run isInLine (drop 2 s))) BadByte)
+unfolding beginsEither and or
 proper-comment-by s false e = proper-bad
 proper-comment-by [] true e = let z : _≡_ {A = ℕ} 0 1 = cc in absurd (omega arith)
 proper-comment-by (a ∷ []) true e =
-    let e′ = sym (and-false (beginsWith 0x2F 0x2F (a ∷ []))) ∙ e in
+    let e′ = sym (and-false (beginsEither (code "/") (code "/") (a ∷ []))) ∙ e in
     let z : _≡_ {A = ℕ} 0 1 = cc in
     absurd (omega arith)
 proper-comment-by (a ∷ b ∷ s) true e = proper-skip {n = 2 + run isInLine s} (omega arith) (let l = run-le isInLine s in omega arith)
@@ -88,8 +88,8 @@ ident-le s = either (eqb (wordKind (take (wordLength s) s)) ident)
     either false = omega arith
 
 joins-le-by : (m : ℕ) (s : List ℕ) (t : Bool) → and (twoColons s) (ltb 0 (identLength (drop 2 s))) ≡ t
-  → joinsWithin m (drop (2 + identLength (drop 2 s)) s) ≤ length (drop (2 + identLength (drop 2 s)) s)
-  → pick t (2 + identLength (drop 2 s) + joinsWithin m (drop (2 + identLength (drop 2 s)) s)) 0 ≤ length s
+    → joinsWithin m (drop (2 + identLength (drop 2 s)) s) ≤ length (drop (2 + identLength (drop 2 s)) s)
+    → pick t (2 + identLength (drop 2 s) + joinsWithin m (drop (2 + identLength (drop 2 s)) s)) 0 ≤ length s
 joins-le-by m s false e below = zero-le
 joins-le-by m s true e below =
     let n = identLength (drop 2 s) in
@@ -189,11 +189,11 @@ pick-le false n l h = zero-le
 
 fraction-le : (s : List ℕ) → fraction s ≤ length s
 unfolding fraction
-fraction-le s = pick-le (beginsWith 0x2E 0x2E s) _ _ (with-le 1 (digits (drop 1 s)) (length s) (digits-le 1 s))
+fraction-le s = pick-le (beginsEither (code ".") (code ".") s) _ _ (with-le 1 (digits (drop 1 s)) (length s) (digits-le 1 s))
 
 exponent-le : (s : List ℕ) → exponent s ≤ length s
 unfolding exponent
-exponent-le s = pick-le (beginsWith 0x65 0x45 s) _ _ (with-le (1 + sign (drop 1 s)) _ (length s) (digits-le (1 + sign (drop 1 s)) s))
+exponent-le s = pick-le (beginsEither (code "e") (code "E") s) _ _ (with-le (1 + sign (drop 1 s)) _ (length s) (digits-le (1 + sign (drop 1 s)) s))
 
 proper-number-of : (s : List ℕ) (n f : ℕ) → n + f ≤ length s → Proper s (numberOf n f s)
 unfolding numberOf
@@ -229,7 +229,7 @@ proper-pick false l m p q = q
 proper-number : (e : Edition) (b : ℕ) (s : List ℕ) → Proper (b ∷ s) (number e (b ∷ s))
 unfolding number
 proper-number e b s =
-    proper-pick (and (e .signed) (beginsWith 0x2D 0x2D (b ∷ s))) _ _ (proper-minus b s _ (proper-unsigned s)) (proper-unsigned (b ∷ s))
+    proper-pick (and (e .signed) (beginsEither (code "-") (code "-") (b ∷ s))) _ _ (proper-minus b s _ (proper-unsigned s)) (proper-unsigned (b ∷ s))
 
 -- strings
 proper-closed : (s : List ℕ) (n : ℕ) (t : Bool) → ltb (1 + n) (length s) ≡ t → Proper s (pick t (Token string (2 + n)) OpenString)
@@ -242,12 +242,12 @@ proper-text : (s : List ℕ) → Proper s (text s)
 unfolding text
 proper-text s =
     let n = run isInString (drop 1 s) in
-    proper-pick (beginsWith 0x60 0x60 s) _ _ (proper-closed s n (ltb (1 + n) (length s)) refl) proper-bad
+    proper-pick (beginsEither (code "`") (code "`") s) _ _ (proper-closed s n (ltb (1 + n) (length s)) refl) proper-bad
 
 -- marks
 module _ (ms : List Spelling) (good : spelled ms ≡ true) where
   proper-mark-of : (s w : List ℕ) (k : ℕ) (other : Lexeme) → length w ≤ length s → (w ≡ [] → k ≡ 0) → k ≤ lastKind
-    → Proper s other → Proper s (markOf k (length w) other)
+      → Proper s other → Proper s (markOf k (length w) other)
   unfolding markOf
   proper-mark-of s w zero other h some high p = p
   proper-mark-of s [] (suc k) other h some high p = let z = some refl in absurd (omega arith)

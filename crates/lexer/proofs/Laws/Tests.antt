@@ -5,7 +5,7 @@ use mathlib.Core.Bool.{Bool, true, false}
 use native.Mathlib.Omega.{arith}
 use lib.Dec.{eqb}
 use borrow.Author.Tests.{eqb-true, ne-eqb}
-use Rattle.lexer.specs.Tests.{and, or, pick}
+use Rattle.lexer.specs.Tests.{and, pick}
 
 pub and-false : (t : Bool) → and t false ≡ false
 unfolding and

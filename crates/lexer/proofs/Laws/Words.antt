@@ -1,6 +1,6 @@
 -- Words, IDENTs and joins, as the tokeniser finds them. Assumes nothing.
 use Prim.Native.Nat.{ℕ, zero, suc, _+_, _≤_, _<_, zero-le, suc-le-suc}
-use mathlib.Core.Path.{_≡_, refl, sym, _∙_, ap}
+use mathlib.Core.Path.{_≡_, refl, _∙_, ap}
 use mathlib.Core.Bool.{Bool, true, false}
 use mathlib.Core.List.{List, [], _∷_}
 use native.Mathlib.Omega.{arith}
@@ -100,7 +100,7 @@ module _ (s : List ℕ) where
   joins-lost h = joins-opened s ∙ rw (h, and-false)
 
   pub joins-more : twoColons s ≡ true → 0 < identLength (drop 2 s)
-    → joins s ≡ 2 + identLength (drop 2 s) + joins (drop (2 + identLength (drop 2 s)) s)
+      → joins s ≡ 2 + identLength (drop 2 s) + joins (drop (2 + identLength (drop 2 s)) s)
   unfolding joins joinsWithin and
   joins-more h more =
       let n = identLength (drop 2 s) in
@@ -143,15 +143,15 @@ module _ (s : List ℕ) (at : ℕ) where
   joins-lost-at h = joins-lost (drop at s) (rw drop-drop h)
 
   pub joins-more-at : twoColons (drop at s) ≡ true → 0 < identLength (drop (at + 2) s)
-    → at + joins (drop at s)
-    ≡ at + 2 + identLength (drop (at + 2) s) + joins (drop (at + 2 + identLength (drop (at + 2) s)) s)
-  joins-more-at h more = 
+      → at + joins (drop at s)
+      ≡ at + 2 + identLength (drop (at + 2) s) + joins (drop (at + 2 + identLength (drop (at + 2) s)) s)
+  joins-more-at h more =
       let n = identLength (drop (at + 2) s) in
       rw (joins-more (drop at s) h (rw drop-drop more), drop-drop 2 at s, drop-drop (2 + n) at s, ← add-assoc at 2 n) (omega arith)
 
 -- what the rule for words gives
 word-of : (n k : ℕ) (t : List ℕ) → 0 < n
-  → wordOf n k t ≡ pick (eqb k ident) (Token k (n + joins (drop n t))) (Token k n)
+    → wordOf n k t ≡ pick (eqb k ident) (Token k (n + joins (drop n t))) (Token k n)
 unfolding wordOf
 word-of zero k t h = absurd (not-suc-le-zero h)
 word-of (suc n) k t h = refl
@@ -162,12 +162,12 @@ module _ (s : List ℕ) (at : ℕ) where
   no-word h = rw h
 
   pub ident-word : 0 < wordLength (drop at s) → wordKind (take (wordLength (drop at s)) (drop at s)) ≡ ident
-    → word (drop at s) ≡ Token ident (wordLength (drop at s) + joins (drop (at + wordLength (drop at s)) s))
+      → word (drop at s) ≡ Token ident (wordLength (drop at s) + joins (drop (at + wordLength (drop at s)) s))
   unfolding word
   ident-word h e = rw (e, word-of _ ident (drop at s) h, drop-drop)
 
   pub letter-word : wordLength (drop at s) ≡ 1 → (wordKind (getD s at 0 ∷ []) ≡ ident → ⊥)
-    → word (drop at s) ≡ Token (wordKind (getD s at 0 ∷ [])) 1
+      → word (drop at s) ≡ Token (wordKind (getD s at 0 ∷ [])) 1
   unfolding word
   letter-word one other =
       rw (one, kind-one-at s at one, word-of 1 (wordKind (getD s at 0 ∷ [])) (drop at s) (omega arith), ne-eqb _ _ other)

@@ -1,7 +1,7 @@
 -- The entries of a name list from a place on: the first of them, and the answer by it. Assumes nothing.
 use Prim.Native.Nat.{ℕ, suc, _+_, _<_, _≤_}
 use mathlib.Core.Path.{_≡_, refl, sym, _∙_, ap}
-use mathlib.Core.Bool.{Bool, true, false, not}
+use mathlib.Core.Bool.{Bool, true, false}
 use mathlib.Core.List.{List, [], _∷_}
 use native.Mathlib.Omega.{arith}
 use native.Mathlib.Nat.{add-assoc}
@@ -12,9 +12,8 @@ use lib.ListN.{length, take, drop, length-drop}
 use lib.Seq.{drop-drop, take-length, length-take-le}
 use Rattle.lexer.specs.Bytes.{isInLine, run}
 use Rattle.lexer.specs.Editions.{Edition}
-use Rattle.lexer.proofs.Laws.Runs.{run-nil, run-pass, run-stop, run-le}
+use Rattle.lexer.proofs.Laws.Runs.{run-pass, run-stop, run-le}
 use Rattle.typenames.specs.NameList.{push, split, entries, isName, firstBad}
-use Rattle.typenames.specs.declared.Checked.{Checked}
 use Rattle.typenames.specs.declared.Checked.the-variants.{Good, Refused}
 
 -- what a byte of a line tells
@@ -28,9 +27,9 @@ line-end b h = rw h
 
 -- the first entry ends before the first byte 10 ..
 split-more-by : (b : ℕ) (s : List ℕ) (t : Bool) → eqb b 10 ≡ t
-  → (run isInLine s < length s → split s ≡ take (run isInLine s) s ∷ split (drop (suc (run isInLine s)) s))
-  → run isInLine (b ∷ s) < suc (length s)
-  → split (b ∷ s) ≡ take (run isInLine (b ∷ s)) (b ∷ s) ∷ split (drop (suc (run isInLine (b ∷ s))) (b ∷ s))
+    → (run isInLine s < length s → split s ≡ take (run isInLine s) s ∷ split (drop (suc (run isInLine s)) s))
+    → run isInLine (b ∷ s) < suc (length s)
+    → split (b ∷ s) ≡ take (run isInLine (b ∷ s)) (b ∷ s) ∷ split (drop (suc (run isInLine (b ∷ s))) (b ∷ s))
 unfolding split push
 split-more-by b s true e below h = rw (run-stop isInLine b s (line-end b e), e)
 split-more-by b s false e below h =
@@ -43,7 +42,7 @@ split-more (b ∷ s) h = split-more-by b s (eqb b 10) refl (split-more s) h
 
 -- .. or, where there is none, is the only one
 split-last-by : (b : ℕ) (s : List ℕ) (t : Bool) → eqb b 10 ≡ t → (run isInLine s ≡ length s → split s ≡ s ∷ [])
-  → run isInLine (b ∷ s) ≡ suc (length s) → split (b ∷ s) ≡ (b ∷ s) ∷ []
+    → run isInLine (b ∷ s) ≡ suc (length s) → split (b ∷ s) ≡ (b ∷ s) ∷ []
 unfolding split push
 split-last-by b s true e below h = let r = run-stop isInLine b s (line-end b e) in absurd (omega arith)
 split-last-by b s false e below h =
@@ -57,7 +56,7 @@ split-last (b ∷ s) h = split-last-by b s (eqb b 10) refl (split-last s) h
 
 -- in both cases the first entry is the first line
 split-first-by : (s : List ℕ) (t : Bool) → ltb (run isInLine s) (length s) ≡ t
-  → (ws : List (List ℕ)) × (split s ≡ take (run isInLine s) s ∷ ws)
+    → (ws : List (List ℕ)) × (split s ≡ take (run isInLine s) s ∷ ws)
 split-first-by s true e = (split (drop (suc (run isInLine s)) s), split-more s (ltb-true _ _ e))
 split-first-by s false e =
     let below = ltb-false (run isInLine s) (length s) e in
@@ -90,12 +89,12 @@ module _ (e : Edition) (list : List ℕ) (at : ℕ) where
       omega arith
 
   pub bad-here : isName e (take lineLength (drop at list)) ≡ false
-    → firstBad e at (split (drop at list)) ≡ Refused 2 at
+      → firstBad e at (split (drop at list)) ≡ Refused 2 at
   unfolding firstBad
   bad-here n = rw (split-first (drop at list) .1, n)
 
   pub good-last : at ≤ length list → at + lineLength ≡ length list → isName e (take lineLength (drop at list)) ≡ true
-    → firstBad e at (split (drop at list)) ≡ Good
+      → firstBad e at (split (drop at list)) ≡ Good
   unfolding firstBad
   good-last h end n =
       let d = drop at list in
@@ -105,7 +104,7 @@ module _ (e : Edition) (list : List ℕ) (at : ℕ) where
       rw (split-last d all, name)
 
   pub good-here : at + lineLength < length list → isName e (take lineLength (drop at list)) ≡ true
-    → firstBad e at (split (drop at list)) ≡ firstBad e (at + lineLength + 1) (split (drop (at + lineLength + 1) list))
+      → firstBad e at (split (drop at list)) ≡ firstBad e (at + lineLength + 1) (split (drop (at + lineLength + 1) list))
   unfolding firstBad
   good-here h n =
       let d = drop at list in

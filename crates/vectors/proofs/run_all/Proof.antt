@@ -12,7 +12,6 @@ Inv-loop text source₀ rows₀ at₀ source rows at = (length source ≡ length
 abbrev μ-loop : tie.MeasureT-loop
 μ-loop text source₀ rows₀ at₀ source rows at = length text - at
 
-
 loop-holds : tie.Need-loop-holds Inv-loop μ-loop
 loop-holds c = search needs
 

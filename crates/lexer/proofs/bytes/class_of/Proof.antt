@@ -6,8 +6,6 @@ use Rattle.lexer.specs.Leaves.{classOf}
 use borrow.Author.Needs.{needs}
 use Rattle.lexer.proofs.bytes.class_of.Statement.{statement}
 use Rattle.lexer.proofs.bytes.class_of.Tie as tie
-use Rattle.lexer.proofs.bytes.class_of.Reads as reads
-use Rattle.lexer.proofs.bytes.class_of.Lts as lts
 
 array-read-result : tie.Need-array-read-result
 array-read-result c = search needs

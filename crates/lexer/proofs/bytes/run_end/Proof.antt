@@ -16,7 +16,6 @@ Inv-loop source at class i₀ i = i + run (member class) (drop i source) ≡ at 
 abbrev μ-loop : tie.MeasureT-loop
 μ-loop source at class i₀ i = length source - i
 
-
 loop-holds : tie.Need-loop-holds Inv-loop μ-loop
 loop-holds c = refl
 

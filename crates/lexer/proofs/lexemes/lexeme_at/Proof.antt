@@ -17,8 +17,8 @@ use Rattle.lexer.proofs.lexemes.lexeme_at.Tie as tie
 
 -- what a rule f gives at a place, from what it gives at the first byte there and those after it
 here : (f : List ℕ → Lexeme) (s : List ℕ) (at : ℕ) → at < length s
-  → lexeme edition17 (getD s at 0 ∷ drop (at + 1) s) ≡ f (getD s at 0 ∷ drop (at + 1) s)
-  → f (drop at s) ≡ lexeme edition17 (drop at s)
+    → lexeme edition17 (getD s at 0 ∷ drop (at + 1) s) ≡ f (getD s at 0 ∷ drop (at + 1) s)
+    → f (drop at s) ≡ lexeme edition17 (drop at s)
 here f s at inside h = rw (front-one s at inside) (sym h)
 
 module _ (c : tie.After-class-of) where
@@ -43,7 +43,6 @@ module _ (c : tie.After-class-of) where
 
   backtick-there : c .class-of .result ≡ 5 → first ≡ 0x60
   backtick-there h = eqb-true _ _ (sym (class-backtick _ byte) ∙ eq-eqb _ _ (class-is 5 h))
-
 
 returns : tie.Need-returns
 unfolding lexeme

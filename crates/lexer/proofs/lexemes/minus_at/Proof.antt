@@ -27,7 +27,6 @@ no-minus (Token k n) h = absurd (miss (0 ∷ 1 ∷ 3 ∷ 4 ∷ []) 2 tt h)
 no-minus BadByte h = refl
 no-minus OpenString h = refl
 
-
 add-unsigned-at : tie.Need-add-unsigned-at
 add-unsigned-at c = search needs
 

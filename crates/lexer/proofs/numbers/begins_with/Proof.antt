@@ -2,8 +2,8 @@
 -- Assumes nothing.
 use Rattle.lexer.proofs.Laws.Fronts.{front-none, front-one}
 use borrow.Author.Tests.{eq-eqb, ne-eqb}
+use Rattle.lexer.specs.Bytes.{beginsEither}
 use Rattle.lexer.specs.Tests.{or}
-use Rattle.lexer.specs.Numbers.{beginsWith}
 use borrow.Author.Needs.{needs}
 use Rattle.lexer.proofs.numbers.begins_with.Statement.{statement}
 use Rattle.lexer.proofs.numbers.begins_with.Tie as tie
@@ -12,18 +12,18 @@ shared-slice-read-if2 : tie.Need-shared-slice-read-if2
 shared-slice-read-if2 c = search needs
 
 returns : tie.Need-returns
-unfolding beginsWith or
+unfolding beginsEither or
 returns c = rw (front-one (c .before .before .before .args .source .now) (c .before .before .before .args .at) (c .before .before .if1 .taken), eq-eqb _ _ (c .if2 .taken))
 
 shared-slice-read-result : tie.Need-shared-slice-read-result
 shared-slice-read-result c = search needs
 
 returns-2 : tie.Need-returns-2
-unfolding beginsWith or
+unfolding beginsEither or
 returns-2 c = rw (front-one (c .before .before .before .before .args .source .now) (c .before .before .before .before .args .at) (c .before .before .before .if1 .taken), ne-eqb _ _ (c .before .if2 .left))
 
 returns-3 : tie.Need-returns-3
-unfolding beginsWith
+unfolding beginsEither
 returns-3 c = rw (front-none (c .before .args .source .now) (c .before .args .at) (c .if1 .left))
 
 pub begins-with-spec : {M : Type 1} → statement M

@@ -19,7 +19,6 @@ Inv-loop source at₀ count₀ at count = (at ≤ length source) × (count ≤ a
 abbrev μ-loop : tie.MeasureT-loop
 μ-loop source at₀ count₀ at count = length source - at
 
-
 returns : tie.Need-returns Inv-loop μ-loop
 unfolding counted
 returns c = rw (lt-ltb _ _ (c .if1 .taken))

@@ -16,7 +16,6 @@ Inv-loop source table₀ at₀ row₀ table at row = (at ≤ length source) × (
 abbrev μ-loop : tie.MeasureT-loop
 μ-loop source table₀ at₀ row₀ table at row = length source - at
 
-
 loop-holds : tie.Need-loop-holds Inv-loop μ-loop
 loop-holds c = (omega arith, omega arith, fill-start (c .before .before .args .source .now) (c .before .before .args .table .now) (c .before .before .pre .1 .0))
 

@@ -16,7 +16,6 @@ use Rattle.lexer.proofs.words.ident_end.Tie as tie
 one : (c : tie.Then1) → let a = c .before .before .before .args in wordLength (drop (a .at) (a .source .now)) ≡ 1
 one c = let e = c .before .word-end .ensures in let t = c .if1 .taken in omega arith
 
-
 word-end-requires : tie.Need-word-end-requires
 word-end-requires c κs = search needs
 

@@ -17,7 +17,6 @@ Inv-loop source end i₀ i = i + joins (drop i source) ≡ end + joins (drop end
 abbrev μ-loop : tie.MeasureT-loop
 μ-loop source end i₀ i = length source - i
 
-
 loop-holds : tie.Need-loop-holds Inv-loop μ-loop
 loop-holds c = refl
 

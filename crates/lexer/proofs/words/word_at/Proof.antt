@@ -14,7 +14,6 @@ use Rattle.lexer.proofs.words.word_at.Tie as tie
 one : (c : tie.Then2) → let a = c .before .before .before .before .args in wordLength (drop (a .at) (a .source .now)) ≡ 1
 one c = let e = c .before .before .word-end .ensures in let t = c .if2 .taken in omega arith
 
-
 word-end-requires : tie.Need-word-end-requires
 word-end-requires c κs = search needs
 

@@ -22,10 +22,9 @@ abbrev μ-loop : tie.MeasureT-loop
 
 -- the entry that is asked is the line at the place reached
 asked : (c : tie.After-is-name Inv-loop μ-loop) → let list = c .before .before .before .before .before .before .before .args .list .now in
-  let at = c .before .before .before .loop .at in
-  c .is-name .result ≡ isName edition17 (take (lineLength edition17 list at) (drop at list))
+    let at = c .before .before .before .loop .at in
+    c .is-name .result ≡ isName edition17 (take (lineLength edition17 list at) (drop at list))
 asked c = c .is-name .ensures ∙ rw (c .before .before .run-end .ensures, add-sub-cancel-left (c .before .before .before .loop .at) _)
-
 
 returns : tie.Need-returns Inv-loop μ-loop
 unfolding checked

@@ -13,7 +13,6 @@ Inv-loop source₀ at piece i₀ to₀ source i to = length source ≡ length so
 abbrev μ-loop : tie.MeasureT-loop
 μ-loop source₀ at piece i₀ to₀ source i to = length piece - i
 
-
 loop-holds : tie.Need-loop-holds Inv-loop μ-loop
 loop-holds c = search needs
 

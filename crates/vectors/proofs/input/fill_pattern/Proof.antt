@@ -13,7 +13,6 @@ Inv-loop rows₀ i₀ rows i = length rows ≡ length rows₀
 abbrev μ-loop : tie.MeasureT-loop
 μ-loop rows₀ i₀ rows i = length rows - i
 
-
 loop-holds : tie.Need-loop-holds Inv-loop μ-loop
 loop-holds c = search needs
 

@@ -12,7 +12,6 @@ Inv-loop text at value₀ i₀ value i = value ≤ 20000255
 abbrev μ-loop : tie.MeasureT-loop
 μ-loop text at value₀ i₀ value i = length text - i
 
-
 loop-holds : tie.Need-loop-holds Inv-loop μ-loop
 loop-holds c = search needs
 

@@ -11,7 +11,6 @@ Inv-loop source₀ piece times at₀ left₀ source at left = length source ≡ 
 abbrev μ-loop : tie.MeasureT-loop
 μ-loop source₀ piece times at₀ left₀ source at left = left
 
-
 loop-holds : tie.Need-loop-holds Inv-loop μ-loop
 loop-holds c = search needs
 

@@ -18,7 +18,6 @@ Inv-loop rows whole left₀ left = left ≤ whole
 abbrev μ-loop : tie.MeasureT-loop
 μ-loop rows whole left₀ left = left
 
-
 loop-holds : tie.Need-loop-holds Inv-loop2 μ-loop2 Inv-loop μ-loop
 loop-holds c = search needs
 

@@ -13,7 +13,6 @@ Inv-loop rows from to i₀ t5 t6 t7 i = (length t5 ≡ 1) × (length t6 ≡ 1) �
 abbrev μ-loop : tie.MeasureT-loop
 μ-loop rows from to i₀ t5 t6 t7 i = to - i
 
-
 loop-holds : tie.Need-loop-holds Inv-loop μ-loop
 loop-holds c = search needs
 
