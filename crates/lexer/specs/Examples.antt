@@ -4,7 +4,8 @@ use Prim.Native.Nat.{ℕ}
 use Prim.Native.String.{String}
 use mathlib.Core.List.{List, [], _∷_}
 use Rattle.lexer.specs.Text.{bytes}
-use Rattle.lexer.specs.Kinds.{ident, keyword, boolean, sizeof, int, float, string, colon, equal, question, dot, plus, minus, slash, less, equalEqual, lessLess, questionQuestion, arrow}
+use Rattle.lexer.specs.Kinds.{ident, keyword, boolean, sizeof, int, float, string, colon, equal, question, dot, plus, minus, slash}
+use Rattle.lexer.specs.Kinds.{less, equalEqual, lessLess, questionQuestion, arrow}
 use Rattle.lexer.specs.Tokens.{Token, Scan, clean, fault}
 
 pub record Example : Type 0 where

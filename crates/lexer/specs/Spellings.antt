@@ -7,7 +7,10 @@ use lib.Dec.{eqb}
 use lib.ListN.{length}
 use Rattle.lexer.specs.Tests.{and, pick}
 use Rattle.lexer.specs.Text.{bytes}
-use Rattle.lexer.specs.Kinds.{keyword, boolean, sizeof, dollar, ampersand, at, percent, colon, bar, equal, semicolon, tilde, leftBrace, rightBrace, leftParen, rightParen, leftBracket, rightBracket, bang, caret, backslash, question, dot, hash, star, plus, minus, slash, less, greater, equalEqual, bangEqual, lessEqual, greaterEqual, lessLess, greaterGreater, questionQuestion, arrow}
+use Rattle.lexer.specs.Kinds.{keyword, boolean, sizeof, dollar, ampersand, at, percent, colon, bar, equal, semicolon, tilde}
+use Rattle.lexer.specs.Kinds.{leftBrace, rightBrace, leftParen, rightParen, leftBracket, rightBracket, bang, caret, backslash}
+use Rattle.lexer.specs.Kinds.{question, dot, hash, star, plus, minus, slash, less, greater, equalEqual, bangEqual, lessEqual}
+use Rattle.lexer.specs.Kinds.{greaterEqual, lessLess, greaterGreater, questionQuestion, arrow}
 
 pub record Spelling : Type 0 where
   pub text : List ℕ

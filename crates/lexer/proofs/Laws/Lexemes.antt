@@ -16,7 +16,8 @@ use Rattle.lexer.specs.Bytes.{isSpace, isDigit, isLetter, isInLine, isIn
 use Rattle.lexer.specs.Spellings.{same, kindOf, longest, commonMarks, shiftMarks}
 use Rattle.lexer.specs.Editions.{Edition, edition17}
 use Rattle.lexer.specs.Words.{joins}
-use Rattle.lexer.specs.Lexemes.{skippedSpaces, spaces, comment, wordOf, word, numberOf, unsignedNumber, withMinus, number, text, markOf, markUpTo, mark, orElse, lexeme}
+use Rattle.lexer.specs.Lexemes.{skippedSpaces, spaces, comment, wordOf, word, numberOf, unsignedNumber, withMinus, number, text}
+use Rattle.lexer.specs.Lexemes.{markOf, markUpTo, mark, orElse, lexeme}
 use Rattle.lexer.specs.Leaves.{classOf}
 use Rattle.lexer.specs.declared.Lexeme.{Lexeme}
 use Rattle.lexer.specs.declared.Lexeme.the-variants.{Skipped, Token, BadByte, OpenString}

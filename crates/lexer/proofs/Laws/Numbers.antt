@@ -86,7 +86,9 @@ module _ (s : List ℕ) (at : ℕ) where
 
   pub exponent-lost : digits (drop (at + 1 + sign (drop (at + 1) s)) s) ≡ 0 → exponent (drop at s) ≡ 0
   unfolding exponent from
-  exponent-lost d = rw (drop-drop 1 at s, drop-drop, place, with-none (1 + sign (drop (at + 1) s)) (digits (drop from s)) d) (pick-same (beginsEither (code "e") (code "E") (drop at s)) 0)
+  exponent-lost d =
+      rw (drop-drop 1 at s, drop-drop, place, with-none (1 + sign (drop (at + 1) s)) (digits (drop from s)) d)
+      (pick-same (beginsEither (code "e") (code "E") (drop at s)) 0)
 
   pub exponent-found : beginsEither (code "e") (code "E") (drop at s) ≡ true
       → 0 < digits (drop (at + 1 + sign (drop (at + 1) s)) s)

@@ -16,7 +16,8 @@ use Rattle.lexer.specs.Spellings.{Spelling, same, kindOf, longest, reser
 use Rattle.lexer.specs.Editions.{Edition}
 use Rattle.lexer.specs.Words.{wordLength, orIdent, wordKind, identLength, twoColons, joinsWithin, joins}
 use Rattle.lexer.specs.Numbers.{digits, withDigits, fraction, sign, exponent}
-use Rattle.lexer.specs.Lexemes.{skippedSpaces, spaces, comment, wordOf, word, numberOf, unsignedNumber, withMinus, number, text, markOf, markUpTo, mark, orElse, lexeme}
+use Rattle.lexer.specs.Lexemes.{skippedSpaces, spaces, comment, wordOf, word, numberOf, unsignedNumber, withMinus, number, text}
+use Rattle.lexer.specs.Lexemes.{markOf, markUpTo, mark, orElse, lexeme}
 use Rattle.lexer.specs.declared.Lexeme.{Lexeme}
 use Rattle.lexer.specs.declared.Lexeme.the-variants.{End, Skipped, Token, BadByte, OpenString}
 use Rattle.lexer.proofs.Laws.Tests.{and-false, and-left, and-right}

@@ -21,7 +21,9 @@ slice-reshare-prefix-run : tie.Need-slice-reshare-prefix-run
 slice-reshare-prefix-run c = search needs
 
 slice-aggregate-run : tie.Need-slice-aggregate-run
-slice-aggregate-run c = sym (length-take-le _ _ (c .before .before .if4 .taken))
+slice-aggregate-run c =
+    let if4 = c .before .before .if4 in
+    sym (length-take-le _ _ (if4 .taken))
 
 part-run-start : tie.Need-part-run-start
 part-run-start c = search needs
@@ -33,7 +35,9 @@ slice-relend-prefix-run : tie.Need-slice-relend-prefix-run
 slice-relend-prefix-run c = search needs
 
 slice-aggregate-run-2 : tie.Need-slice-aggregate-run-2
-slice-aggregate-run-2 c = sym (length-take-le _ _ (c .before .before .before .if5 .taken))
+slice-aggregate-run-2 c =
+    let if5 = c .before .before .before .if5 in
+    sym (length-take-le _ _ (if5 .taken))
 
 run-requires : tie.Need-run-requires
 run-requires c κs = search needs

@@ -31,13 +31,22 @@ enum-told-5 : tie.Need-enum-told-5
 enum-told-5 c = search needs
 
 returns : tie.Need-returns
-returns c = rw (c .before .enum-told .given .1, c .class-of .ensures) (class-space _ (c .before .before .before .fits .b .fits))
+returns c =
+    let enum-told = c .before .enum-told in
+    let fits = c .before .before .before .fits in
+    rw (enum-told .given .1, c .class-of .ensures) (class-space _ (fits .b .fits))
 
 returns-2 : tie.Need-returns-2
-returns-2 c = rw (c .before .enum-told2 .given .1, c .class-of2 .ensures) (class-digit _ (c .before .before .before .fits .b .fits))
+returns-2 c =
+    let enum-told2 = c .before .enum-told2 in
+    let fits = c .before .before .before .fits in
+    rw (enum-told2 .given .1, c .class-of2 .ensures) (class-digit _ (fits .b .fits))
 
 returns-3 : tie.Need-returns-3
-returns-3 c = rw (c .before .enum-told3 .given .1, c .class-of3 .ensures) (class-word _ (c .before .before .before .fits .b .fits))
+returns-3 c =
+    let enum-told3 = c .before .enum-told3 in
+    let fits = c .before .before .before .fits in
+    rw (enum-told3 .given .1, c .class-of3 .ensures) (class-word _ (fits .b .fits))
 
 returns-4 : tie.Need-returns-4
 unfolding isInLine

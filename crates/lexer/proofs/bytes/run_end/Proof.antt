@@ -32,13 +32,25 @@ loop-less : tie.Need-loop-less Inv-loop μ-loop
 loop-less c = search needs
 
 loop-again : tie.Need-loop-again Inv-loop μ-loop
-loop-again c = sym (run-goes-on _ _ _ (c .before .before .before .loop-test .taken) (sym (c .before .belongs .ensures) ∙ c .if1 .taken)) ∙ c .before .before .before .before .loop .inv
+loop-again c =
+    let loop-test = c .before .before .before .loop-test in
+    let belongs = c .before .belongs in
+    let loop = c .before .before .before .before .loop in
+    sym (run-goes-on _ _ _ (loop-test .taken) (sym (belongs .ensures) ∙ c .if1 .taken)) ∙ loop .inv
 
 returns : tie.Need-returns Inv-loop μ-loop
-returns c = sym (add-zero _) ∙ rw (run-ends (member (c .before .before .before .before .before .before .args .class)) (c .before .before .before .before .before .before .args .source .now) (c .before .before .before .before .loop .i) (c .before .before .before .loop-test .taken) (sym (c .before .belongs .ensures) ∙ c .if1 .left)) at (c .before .before .before .before .loop .inv)
+returns c =
+    let args = c .before .before .before .before .before .before .args in
+    let loop = c .before .before .before .before .loop in
+    let loop-test = c .before .before .before .loop-test in
+    let belongs = c .before .belongs in
+    sym (add-zero _) ∙ rw (run-ends (member (args .class)) (args .source .now) (loop .i) (loop-test .taken) (sym (belongs .ensures) ∙ c .if1 .left)) at (loop .inv)
 
 returns-2 : tie.Need-returns-2 Inv-loop μ-loop
-returns-2 c = sym (add-zero _) ∙ rw (run-past (member (c .before .before .before .args .class)) _ _ (c .loop-test .left)) at (c .before .loop .inv)
+returns-2 c =
+    let args = c .before .before .before .args in
+    let loop = c .before .loop in
+    sym (add-zero _) ∙ rw (run-past (member (args .class)) _ _ (c .loop-test .left)) at (loop .inv)
 
 pub run-end-spec : {M : Type 1} → statement M
 run-end-spec =

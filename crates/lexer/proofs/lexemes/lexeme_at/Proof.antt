@@ -10,7 +10,8 @@ use Rattle.lexer.specs.Leaves.{classOf}
 use Rattle.lexer.specs.declared.Lexeme.{Lexeme}
 use Rattle.lexer.proofs.Laws.Classes.{class-minus, class-slash, class-backtick}
 use Rattle.lexer.proofs.Laws.Fronts.{front-none, front-one}
-use Rattle.lexer.proofs.Laws.Lexemes.{lexeme-letter, lexeme-space, lexeme-digit, lexeme-minus, lexeme-slash, lexeme-backtick, lexeme-mark, string-first}
+use Rattle.lexer.proofs.Laws.Lexemes.{lexeme-letter, lexeme-space, lexeme-digit, lexeme-minus, lexeme-slash, lexeme-backtick}
+use Rattle.lexer.proofs.Laws.Lexemes.{lexeme-mark, string-first}
 use borrow.Author.Needs.{needs}
 use Rattle.lexer.proofs.lexemes.lexeme_at.Statement.{statement}
 use Rattle.lexer.proofs.lexemes.lexeme_at.Tie as tie
@@ -46,7 +47,9 @@ module _ (c : tie.After-class-of) where
 
 returns : tie.Need-returns
 unfolding lexeme
-returns c = rw (front-none (c .before .before .args .source .now) (c .before .before .args .at) (c .if1 .taken))
+returns c =
+    let args = c .before .before .args in
+    rw (front-none (args .source .now) (args .at) (c .if1 .taken))
 
 shared-slice-read-first : tie.Need-shared-slice-read-first
 shared-slice-read-first c = search needs
@@ -64,47 +67,84 @@ unsigned-at-requires : tie.Need-unsigned-at-requires
 unsigned-at-requires c κs = search needs
 
 minus-at-requires : tie.Need-minus-at-requires
-minus-at-requires c κs = (c .before .before .before .if1 .left, minus-there (c .before) (c .match .keys4))
+minus-at-requires c κs =
+    let if1 = c .before .before .before .if1 in
+    let at-class-of = c .before in
+    (if1 .left, minus-there (at-class-of) (c .match .keys4))
 
 slash-at-requires : tie.Need-slash-at-requires
-slash-at-requires c κs = (c .before .before .before .if1 .left, slash-there (c .before) (c .match .keys5))
+slash-at-requires c κs =
+    let if1 = c .before .before .before .if1 in
+    let at-class-of = c .before in
+    (if1 .left, slash-there (at-class-of) (c .match .keys5))
 
 string-at-requires : tie.Need-string-at-requires
-string-at-requires c κs = (c .before .before .before .if1 .left, backtick-there (c .before) (c .match .keys6))
+string-at-requires c κs =
+    let if1 = c .before .before .before .if1 in
+    let at-class-of = c .before in
+    (if1 .left, backtick-there (at-class-of) (c .match .keys6))
 
 mark-at-requires : tie.Need-mark-at-requires
 mark-at-requires c κs = search needs
 
 returns-2 : tie.Need-returns-2
-returns-2 c = c .word-at .ensures ∙ here word _ _ (c .before .before .before .before .if1 .left)
-    (lexeme-letter edition17 _ _ (byte (c .before .before)) (class-is (c .before .before) 1 (c .before .match .keys1)))
+returns-2 c =
+    let if1 = c .before .before .before .before .if1 in
+    let at-class-of = c .before .before in
+    let match = c .before .match in
+    c .word-at .ensures ∙ here word _ _ (if1 .left)
+    (lexeme-letter edition17 _ _ (byte (at-class-of)) (class-is (at-class-of) 1 (match .keys1)))
 
 returns-3 : tie.Need-returns-3
-returns-3 c = c .spaces-at .ensures ∙ here spaces _ _ (c .before .before .before .before .if1 .left)
-    (lexeme-space edition17 _ _ (byte (c .before .before)) (class-is (c .before .before) 2 (c .before .match .keys2)))
+returns-3 c =
+    let if1 = c .before .before .before .before .if1 in
+    let at-class-of = c .before .before in
+    let match = c .before .match in
+    c .spaces-at .ensures ∙ here spaces _ _ (if1 .left)
+    (lexeme-space edition17 _ _ (byte (at-class-of)) (class-is (at-class-of) 2 (match .keys2)))
 
 returns-4 : tie.Need-returns-4
-returns-4 c = c .unsigned-at .ensures ∙ here unsignedNumber _ _ (c .before .before .before .before .if1 .left)
-    (lexeme-digit edition17 _ _ (byte (c .before .before)) (class-is (c .before .before) 0 (c .before .match .keys3)))
+returns-4 c =
+    let if1 = c .before .before .before .before .if1 in
+    let at-class-of = c .before .before in
+    let match = c .before .match in
+    c .unsigned-at .ensures ∙ here unsignedNumber _ _ (if1 .left)
+    (lexeme-digit edition17 _ _ (byte (at-class-of)) (class-is (at-class-of) 0 (match .keys3)))
 
 returns-5 : tie.Need-returns-5
-returns-5 c = c .minus-at .ensures ∙ here (λ s. orElse (number edition17 s) (mark edition17 s)) _ _ (c .before .before .before .before .if1 .left)
-    (lexeme-minus edition17 _ _ (byte (c .before .before)) (class-is (c .before .before) 3 (c .before .match .keys4)))
+returns-5 c =
+    let if1 = c .before .before .before .before .if1 in
+    let at-class-of = c .before .before in
+    let match = c .before .match in
+    c .minus-at .ensures ∙ here (λ s. orElse (number edition17 s) (mark edition17 s)) _ _ (if1 .left)
+    (lexeme-minus edition17 _ _ (byte (at-class-of)) (class-is (at-class-of) 3 (match .keys4)))
 
 returns-6 : tie.Need-returns-6
-returns-6 c = c .slash-at .ensures ∙ here (λ s. orElse (comment s) (mark edition17 s)) _ _ (c .before .before .before .before .if1 .left)
-    (lexeme-slash edition17 _ _ (byte (c .before .before)) (class-is (c .before .before) 4 (c .before .match .keys5)))
+returns-6 c =
+    let if1 = c .before .before .before .before .if1 in
+    let at-class-of = c .before .before in
+    let match = c .before .match in
+    c .slash-at .ensures ∙ here (λ s. orElse (comment s) (mark edition17 s)) _ _ (if1 .left)
+    (lexeme-slash edition17 _ _ (byte (at-class-of)) (class-is (at-class-of) 4 (match .keys5)))
 
 returns-7 : tie.Need-returns-7
-returns-7 c = c .string-at .ensures ∙ sym (string-first _ _ (c .before .before .before .before .if1 .left) (backtick-there (c .before .before) (c .before .match .keys6)) _)
-    ∙ here (λ s. orElse (text s) (mark edition17 s)) _ _ (c .before .before .before .before .if1 .left)
-    (lexeme-backtick edition17 _ _ (byte (c .before .before)) (class-is (c .before .before) 5 (c .before .match .keys6)))
+returns-7 c =
+    let if1 = c .before .before .before .before .if1 in
+    let at-class-of = c .before .before in
+    let match = c .before .match in
+    c .string-at .ensures ∙ sym (string-first _ _ (if1 .left) (backtick-there (at-class-of) (match .keys6)) _)
+    ∙ here (λ s. orElse (text s) (mark edition17 s)) _ _ (if1 .left)
+    (lexeme-backtick edition17 _ _ (byte (at-class-of)) (class-is (at-class-of) 5 (match .keys6)))
 
 returns-8 : tie.Need-returns-8
-returns-8 c = let r = c .before .match .rest in
-    let no = class-not (c .before .before) in
-    c .mark-at .ensures ∙ here (mark edition17) _ _ (c .before .before .before .before .if1 .left)
-    (lexeme-mark edition17 _ _ (byte (c .before .before)) (no 0 (r .0 .0 .0 .1)) (no 1 (r .0 .0 .0 .0 .0 .1)) (no 2 (r .0 .0 .0 .0 .1))
+returns-8 c =
+    let match = c .before .match in
+    let at-class-of = c .before .before in
+    let if1 = c .before .before .before .before .if1 in
+    let r = match .rest in
+    let no = class-not (at-class-of) in
+    c .mark-at .ensures ∙ here (mark edition17) _ _ (if1 .left)
+    (lexeme-mark edition17 _ _ (byte (at-class-of)) (no 0 (r .0 .0 .0 .1)) (no 1 (r .0 .0 .0 .0 .0 .1)) (no 2 (r .0 .0 .0 .0 .1))
     (no 3 (r .0 .0 .1)) (no 4 (r .0 .1)) (no 5 (r .1)))
 
 pub lexeme-at-spec : {M : Type 1} → statement M

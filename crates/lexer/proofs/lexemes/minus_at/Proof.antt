@@ -37,19 +37,36 @@ enum-known-unsigned : tie.Need-enum-known-unsigned
 enum-known-unsigned c = search needs
 
 add-t8 : tie.Need-add-t8
-add-t8 c = let p = of-token (rw (sym (c .before .before .before .unsigned-at .ensures) ∙ c .before .unsigned .given .1) at (proper-unsigned (drop (c .before .before .before .before .before .args .at + 1) (c .before .before .before .before .before .args .source .now)))) in
-    let l = length-drop (c .before .before .before .before .before .args .at + 1) (c .before .before .before .before .before .args .source .now) in
-    let h = c .before .before .before .before .before .pre .0 in
+add-t8 c =
+    let unsigned-at = c .before .before .before .unsigned-at in
+    let unsigned = c .before .unsigned in
+    let args = c .before .before .before .before .before .args in
+    let pre = c .before .before .before .before .before .pre in
+    let p = of-token (rw (sym (unsigned-at .ensures) ∙ unsigned .given .1) at (proper-unsigned (drop (args .at + 1) (args .source .now)))) in
+    let l = length-drop (args .at + 1) (args .source .now) in
+    let h = pre .0 in
     let w = p .within in
     omega arith
 
 returns : tie.Need-returns
 unfolding orElse withMinus
-returns c = rw (minus-number (c .before .before .before .before .before .args .source .now) (c .before .before .before .before .before .args .at) (c .before .before .before .before .before .pre .0) (c .before .before .before .before .before .pre .1), ← c .before .before .before .unsigned-at .ensures, c .before .unsigned .given .1, add-one)
+returns c =
+    let args = c .before .before .before .before .before .args in
+    let pre = c .before .before .before .before .before .pre in
+    let unsigned-at = c .before .before .before .unsigned-at in
+    let unsigned = c .before .unsigned in
+    let s = args .source .now in
+    rw (minus-number s (args .at) (pre .0) (pre .1), ← unsigned-at .ensures, unsigned .given .1, add-one)
 
 returns-2 : tie.Need-returns-2
 unfolding orElse
-returns-2 c = rw (minus-number (c .before .before .before .args .source .now) (c .before .before .before .args .at) (c .before .before .before .pre .0) (c .before .before .before .pre .1), ← c .before .unsigned-at .ensures, no-minus _ (c .match .keys2)) (sym (minus-mark (c .before .before .before .args .source .now) (c .before .before .before .args .at) (c .before .before .before .pre .0) (c .before .before .before .pre .1)))
+returns-2 c =
+    let args = c .before .before .before .args in
+    let pre = c .before .before .before .pre in
+    let unsigned-at = c .before .unsigned-at in
+    let s = args .source .now in
+    rw (minus-number s (args .at) (pre .0) (pre .1), ← unsigned-at .ensures, no-minus _ (c .match .keys2))
+    (sym (minus-mark s (args .at) (pre .0) (pre .1)))
 
 pub minus-at-spec : {M : Type 1} → statement M
 minus-at-spec =

@@ -17,7 +17,10 @@ begins-with-requires : tie.Need-begins-with-requires
 begins-with-requires c κs = search needs
 
 add-run-end : tie.Need-add-run-end
-add-run-end c = let i = begins-inside (c .before .before .before .args .source .now) (c .before .before .before .args .at + 1) 47 47 (sym (c .before .begins-with .ensures) ∙ c .if1 .taken) in omega arith
+add-run-end c =
+    let args = c .before .before .before .args in
+    let begins-with = c .before .begins-with in
+    let i = begins-inside (args .source .now) (args .at + 1) 47 47 (sym (begins-with .ensures) ∙ c .if1 .taken) in omega arith
 
 run-end-requires : tie.Need-run-end-requires
 run-end-requires c κs = search needs
@@ -27,13 +30,22 @@ sub-t6 c = let e = c .run-end .ensures in omega arith
 
 returns : tie.Need-returns
 unfolding orElse
-returns c = rw (comment-found (c .before .before .before .before .args .source .now) (c .before .before .before .before .args .at) (c .before .before .before .before .pre .0) (c .before .before .before .before .pre .1) (sym (c .before .before .begins-with .ensures) ∙ c .before .if1 .taken))
+returns c =
+    let args = c .before .before .before .before .args in
+    let pre = c .before .before .before .before .pre in
+    let begins-with = c .before .before .begins-with in
+    let if1 = c .before .if1 in
+    rw (comment-found (args .source .now) (args .at) (pre .0) (pre .1) (sym (begins-with .ensures) ∙ if1 .taken))
     (ap (λ (n : ℕ). Lexeme.Skipped n) (let e = c .run-end .ensures in omega arith))
 
 returns-2 : tie.Need-returns-2
 unfolding orElse
-returns-2 c = rw (comment-lost (c .before .before .before .args .source .now) (c .before .before .before .args .at) (c .before .before .before .pre .0) (c .before .before .before .pre .1) (sym (c .before .begins-with .ensures) ∙ c .if1 .left))
-    (sym (slash-mark (c .before .before .before .args .source .now) (c .before .before .before .args .at) (c .before .before .before .pre .0) (c .before .before .before .pre .1)))
+returns-2 c =
+    let args = c .before .before .before .args in
+    let pre = c .before .before .before .pre in
+    let begins-with = c .before .begins-with in
+    rw (comment-lost (args .source .now) (args .at) (pre .0) (pre .1) (sym (begins-with .ensures) ∙ c .if1 .left))
+    (sym (slash-mark (args .source .now) (args .at) (pre .0) (pre .1)))
 
 pub slash-at-spec : {M : Type 1} → statement M
 slash-at-spec =

@@ -12,13 +12,19 @@ run-end-requires : tie.Need-run-end-requires
 run-end-requires c κs = search needs
 
 returns : tie.Need-returns
-returns c = sym (spaces-none _ (let e = c .before .run-end .ensures in let t = c .if1 .taken in omega arith))
+returns c =
+    let run-end = c .before .run-end in
+    sym (spaces-none _ (let e = run-end .ensures in let t = c .if1 .taken in omega arith))
 
 sub-t6 : tie.Need-sub-t6
-sub-t6 c = let e = c .before .run-end .ensures in omega arith
+sub-t6 c =
+    let run-end = c .before .run-end in
+    let e = run-end .ensures in omega arith
 
 returns-2 : tie.Need-returns-2
-returns-2 c = let e = c .before .run-end .ensures in
+returns-2 c =
+    let run-end = c .before .run-end in
+    let e = run-end .ensures in
     let t = c .if1 .left in
     ap (λ (n : ℕ). Lexeme.Skipped n) (omega arith) ∙ sym (spaces-some _ (omega arith))
 

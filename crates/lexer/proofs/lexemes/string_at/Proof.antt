@@ -19,16 +19,26 @@ add-t7 : tie.Need-add-t7
 add-t7 c = search needs
 
 sub-t8 : tie.Need-sub-t8
-sub-t8 c = let e = c .before .run-end .ensures in omega arith
+sub-t8 c =
+    let run-end = c .before .run-end in
+    let e = run-end .ensures in omega arith
 
 returns : tie.Need-returns
-returns c = let e = c .before .run-end .ensures in
+returns c =
+    let run-end = c .before .run-end in
+    let args = c .before .before .before .args in
+    let pre = c .before .before .before .pre in
+    let e = run-end .ensures in
     let t = c .if1 .taken in
     ap (λ (n : ℕ). Lexeme.Token string n) (omega arith)
-    ∙ sym (string-closed (c .before .before .before .args .source .now) (c .before .before .before .args .at) (c .before .before .before .pre .0) (c .before .before .before .pre .1) (omega arith))
+    ∙ sym (string-closed (args .source .now) (args .at) (pre .0) (pre .1) (omega arith))
 
 returns-2 : tie.Need-returns-2
-returns-2 c = sym (string-open (c .before .before .before .args .source .now) (c .before .before .before .args .at) (c .before .before .before .pre .0) (c .before .before .before .pre .1) (let e = c .before .run-end .ensures in let t = c .if1 .left in omega arith))
+returns-2 c =
+    let args = c .before .before .before .args in
+    let pre = c .before .before .before .pre in
+    let run-end = c .before .run-end in
+    sym (string-open (args .source .now) (args .at) (pre .0) (pre .1) (let e = run-end .ensures in let t = c .if1 .left in omega arith))
 
 pub string-at-spec : {M : Type 1} → statement M
 string-at-spec = tie.close (tie.spec add-run-end run-end-requires add-t7 sub-t8 returns returns-2)

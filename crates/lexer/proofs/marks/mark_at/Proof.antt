@@ -8,7 +8,9 @@ use Rattle.lexer.proofs.marks.mark_at.Statement.{statement}
 use Rattle.lexer.proofs.marks.mark_at.Tie as tie
 
 returns : tie.Need-returns
-returns c = rw (front-none (c .before .before .args .source .now) (c .before .before .args .at) (c .if1 .taken)) (sym mark-nil)
+returns c =
+    let args = c .before .before .args in
+    rw (front-none (args .source .now) (args .at) (c .if1 .taken)) (sym mark-nil)
 
 sub-left : tie.Need-sub-left
 sub-left c = search needs
@@ -20,7 +22,9 @@ mark-of-one-requires : tie.Need-mark-of-one-requires
 mark-of-one-requires c κs = search needs
 
 returns-2 : tie.Need-returns-2
-returns-2 c = rw (front-last (c .before .before .before .before .before .args .source .now) (c .before .before .before .before .before .args .at) (omega arith) (omega arith)) (c .mark-of-one .ensures)
+returns-2 c =
+    let args = c .before .before .before .before .before .args in
+    rw (front-last (args .source .now) (args .at) (omega arith) (omega arith)) (c .mark-of-one .ensures)
 
 shared-slice-read-mark-of-two : tie.Need-shared-slice-read-mark-of-two
 shared-slice-read-mark-of-two c = search needs
@@ -35,7 +39,9 @@ mark-of-two-requires : tie.Need-mark-of-two-requires
 mark-of-two-requires c κs = search needs
 
 returns-3 : tie.Need-returns-3
-returns-3 c = rw (front-last-two (c .before .before .before .before .before .before .before .args .source .now) (c .before .before .before .before .before .before .before .args .at) (omega arith) (omega arith)) (c .mark-of-two .ensures)
+returns-3 c =
+    let args = c .before .before .before .before .before .before .before .args in
+    rw (front-last-two (args .source .now) (args .at) (omega arith) (omega arith)) (c .mark-of-two .ensures)
 
 shared-slice-read-mark-of-three : tie.Need-shared-slice-read-mark-of-three
 shared-slice-read-mark-of-three c = search needs
@@ -56,7 +62,9 @@ mark-of-three-requires : tie.Need-mark-of-three-requires
 mark-of-three-requires c κs = search needs
 
 returns-4 : tie.Need-returns-4
-returns-4 c = rw (front-three (c .before .before .before .before .before .before .before .before .args .source .now) (c .before .before .before .before .before .before .before .before .args .at) (omega arith)) (c .mark-of-three .ensures ∙ sym (three-only _ _ _ _))
+returns-4 c =
+    let args = c .before .before .before .before .before .before .before .before .args in
+    rw (front-three (args .source .now) (args .at) (omega arith)) (c .mark-of-three .ensures ∙ sym (three-only _ _ _ _))
 
 pub mark-at-spec : {M : Type 1} → statement M
 mark-at-spec =

@@ -9,10 +9,14 @@ mark-kind-requires : tie.Need-mark-kind-requires
 mark-kind-requires c κs = search needs
 
 returns : tie.Need-returns
-returns c = sym (one-lost _ (sym (c .before .mark-kind .ensures) ∙ c .if1 .taken))
+returns c =
+    let mark-kind = c .before .mark-kind in
+    sym (one-lost _ (sym (mark-kind .ensures) ∙ c .if1 .taken))
 
 returns-2 : tie.Need-returns-2
-returns-2 c = rw (c .before .mark-kind .ensures) (sym (one-found _ (λ e. c .if1 .left (c .before .mark-kind .ensures ∙ e))))
+returns-2 c =
+    let mark-kind = c .before .mark-kind in
+    rw (mark-kind .ensures) (sym (one-found _ (λ e. c .if1 .left (mark-kind .ensures ∙ e))))
 
 pub mark-of-one-spec : {M : Type 1} → statement M
 mark-of-one-spec = tie.close (tie.spec mark-kind-requires returns returns-2)

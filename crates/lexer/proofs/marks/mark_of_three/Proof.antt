@@ -12,10 +12,15 @@ mark-of-two-requires : tie.Need-mark-of-two-requires
 mark-of-two-requires c κs = search needs
 
 returns : tie.Need-returns
-returns c = c .mark-of-two .ensures ∙ sym (three-lost _ _ _ (sym (c .before .before .triple-kind .ensures) ∙ c .before .if1 .taken))
+returns c =
+    let triple-kind = c .before .before .triple-kind in
+    let if1 = c .before .if1 in
+    c .mark-of-two .ensures ∙ sym (three-lost _ _ _ (sym (triple-kind .ensures) ∙ if1 .taken))
 
 returns-2 : tie.Need-returns-2
-returns-2 c = rw (c .before .triple-kind .ensures) (sym (three-found _ _ _ (λ e. c .if1 .left (c .before .triple-kind .ensures ∙ e))))
+returns-2 c =
+    let triple-kind = c .before .triple-kind in
+    rw (triple-kind .ensures) (sym (three-found _ _ _ (λ e. c .if1 .left (triple-kind .ensures ∙ e))))
 
 pub mark-of-three-spec : {M : Type 1} → statement M
 mark-of-three-spec =

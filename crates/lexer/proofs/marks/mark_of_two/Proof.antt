@@ -12,10 +12,15 @@ mark-of-one-requires : tie.Need-mark-of-one-requires
 mark-of-one-requires c κs = search needs
 
 returns : tie.Need-returns
-returns c = c .mark-of-one .ensures ∙ sym (two-lost _ _ (sym (c .before .before .pair-kind .ensures) ∙ c .before .if1 .taken))
+returns c =
+    let pair-kind = c .before .before .pair-kind in
+    let if1 = c .before .if1 in
+    c .mark-of-one .ensures ∙ sym (two-lost _ _ (sym (pair-kind .ensures) ∙ if1 .taken))
 
 returns-2 : tie.Need-returns-2
-returns-2 c = rw (c .before .pair-kind .ensures) (sym (two-found _ _ (λ e. c .if1 .left (c .before .pair-kind .ensures ∙ e))))
+returns-2 c =
+    let pair-kind = c .before .pair-kind in
+    rw (pair-kind .ensures) (sym (two-found _ _ (λ e. c .if1 .left (pair-kind .ensures ∙ e))))
 
 pub mark-of-two-spec : {M : Type 1} → statement M
 mark-of-two-spec = tie.close (tie.spec pair-kind-requires mark-of-one-requires returns returns-2)

@@ -9,7 +9,10 @@ use Rattle.lexer.proofs.marks.triple_kind.Tie as tie
 
 returns : tie.Need-returns
 unfolding and same kindOf commonMarks shiftMarks
-returns c = rw (c .before .before .if1 .taken, c .before .if2 .taken, c .if3 .taken)
+returns c =
+    let if1 = c .before .before .if1 in
+    let if2 = c .before .if2 in
+    rw (if1 .taken, if2 .taken, c .if3 .taken)
 
 returns-2 : tie.Need-returns-2
 unfolding and same kindOf commonMarks shiftMarks

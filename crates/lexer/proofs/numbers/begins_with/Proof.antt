@@ -2,8 +2,8 @@
 -- Assumes nothing.
 use Rattle.lexer.proofs.Laws.Fronts.{front-none, front-one}
 use borrow.Author.Tests.{eq-eqb, ne-eqb}
-use Rattle.lexer.specs.Bytes.{beginsEither}
 use Rattle.lexer.specs.Tests.{or}
+use Rattle.lexer.specs.Bytes.{beginsEither}
 use borrow.Author.Needs.{needs}
 use Rattle.lexer.proofs.numbers.begins_with.Statement.{statement}
 use Rattle.lexer.proofs.numbers.begins_with.Tie as tie
@@ -13,18 +13,27 @@ shared-slice-read-if2 c = search needs
 
 returns : tie.Need-returns
 unfolding beginsEither or
-returns c = rw (front-one (c .before .before .before .args .source .now) (c .before .before .before .args .at) (c .before .before .if1 .taken), eq-eqb _ _ (c .if2 .taken))
+returns c =
+    let args = c .before .before .before .args in
+    let if1 = c .before .before .if1 in
+    rw (front-one (args .source .now) (args .at) (if1 .taken), eq-eqb _ _ (c .if2 .taken))
 
 shared-slice-read-result : tie.Need-shared-slice-read-result
 shared-slice-read-result c = search needs
 
 returns-2 : tie.Need-returns-2
 unfolding beginsEither or
-returns-2 c = rw (front-one (c .before .before .before .before .args .source .now) (c .before .before .before .before .args .at) (c .before .before .before .if1 .taken), ne-eqb _ _ (c .before .if2 .left))
+returns-2 c =
+    let args = c .before .before .before .before .args in
+    let if1 = c .before .before .before .if1 in
+    let if2 = c .before .if2 in
+    rw (front-one (args .source .now) (args .at) (if1 .taken), ne-eqb _ _ (if2 .left))
 
 returns-3 : tie.Need-returns-3
 unfolding beginsEither
-returns-3 c = rw (front-none (c .before .args .source .now) (c .before .args .at) (c .if1 .left))
+returns-3 c =
+    let args = c .before .args in
+    rw (front-none (args .source .now) (args .at) (c .if1 .left))
 
 pub begins-with-spec : {M : Type 1} → statement M
 begins-with-spec =

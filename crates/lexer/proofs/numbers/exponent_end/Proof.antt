@@ -11,7 +11,10 @@ begins-with-requires : tie.Need-begins-with-requires
 begins-with-requires c κs = search needs
 
 add-sign-end : tie.Need-add-sign-end
-add-sign-end c = let i = begins-inside (c .before .before .before .args .source .now) (c .before .before .before .args .at) 101 69 (sym (c .before .begins-with .ensures) ∙ c .if1 .taken) in omega arith
+add-sign-end c =
+    let args = c .before .before .before .args in
+    let begins-with = c .before .begins-with in
+    let i = begins-inside (args .source .now) (args .at) 101 69 (sym (begins-with .ensures) ∙ c .if1 .taken) in omega arith
 
 sign-end-requires : tie.Need-sign-end-requires
 sign-end-requires c κs = search needs
@@ -20,19 +23,32 @@ run-end-requires : tie.Need-run-end-requires
 run-end-requires c κs = search needs
 
 returns : tie.Need-returns
-returns c = let a = c .before .before .before .before .before .before .args in
-    let e = rw (c .before .before .sign-end .ensures) at (c .before .run-end .ensures) in
-    let t = rw (c .before .before .sign-end .ensures) at (c .if2 .taken) in
-    e ∙ sym (exponent-found (a .source .now) (a .at) (sym (c .before .before .before .before .begins-with .ensures) ∙ c .before .before .before .if1 .taken) (omega arith))
+returns c =
+    let args = c .before .before .before .before .before .before .args in
+    let sign-end = c .before .before .sign-end in
+    let run-end = c .before .run-end in
+    let begins-with = c .before .before .before .before .begins-with in
+    let if1 = c .before .before .before .if1 in
+    let a = args in
+    let e = rw (sign-end .ensures) at (run-end .ensures) in
+    let t = rw (sign-end .ensures) at (c .if2 .taken) in
+    e ∙ sym (exponent-found (a .source .now) (a .at) (sym (begins-with .ensures) ∙ if1 .taken) (omega arith))
 
 returns-2 : tie.Need-returns-2
-returns-2 c = let a = c .before .before .before .before .before .before .args in
-    let e = rw (c .before .before .sign-end .ensures) at (c .before .run-end .ensures) in
-    let t = rw (c .before .before .sign-end .ensures) at (c .if2 .left) in
+returns-2 c =
+    let args = c .before .before .before .before .before .before .args in
+    let sign-end = c .before .before .sign-end in
+    let run-end = c .before .run-end in
+    let a = args in
+    let e = rw (sign-end .ensures) at (run-end .ensures) in
+    let t = rw (sign-end .ensures) at (c .if2 .left) in
     rw (exponent-lost (a .source .now) (a .at) (omega arith)) (sym (add-zero _))
 
 returns-3 : tie.Need-returns-3
-returns-3 c = rw (exponent-none (c .before .before .before .args .source .now) (c .before .before .before .args .at) (sym (c .before .begins-with .ensures) ∙ c .if1 .left)) (sym (add-zero _))
+returns-3 c =
+    let args = c .before .before .before .args in
+    let begins-with = c .before .begins-with in
+    rw (exponent-none (args .source .now) (args .at) (sym (begins-with .ensures) ∙ c .if1 .left)) (sym (add-zero _))
 
 pub exponent-end-spec : {M : Type 1} → statement M
 exponent-end-spec =

@@ -11,25 +11,39 @@ begins-with-requires : tie.Need-begins-with-requires
 begins-with-requires c κs = search needs
 
 add-from : tie.Need-add-from
-add-from c = let i = begins-inside (c .before .before .before .args .source .now) (c .before .before .before .args .at) 46 46 (sym (c .before .begins-with .ensures) ∙ c .if1 .taken) in omega arith
+add-from c =
+    let args = c .before .before .before .args in
+    let begins-with = c .before .begins-with in
+    let i = begins-inside (args .source .now) (args .at) 46 46 (sym (begins-with .ensures) ∙ c .if1 .taken) in omega arith
 
 run-end-requires : tie.Need-run-end-requires
 run-end-requires c κs = search needs
 
 returns : tie.Need-returns
-returns c = let a = c .before .before .before .before .before .args in
-    let e = c .before .run-end .ensures in
+returns c =
+    let args = c .before .before .before .before .before .args in
+    let run-end = c .before .run-end in
+    let begins-with = c .before .before .before .begins-with in
+    let if1 = c .before .before .if1 in
+    let a = args in
+    let e = run-end .ensures in
     let t = c .if2 .taken in
-    e ∙ sym (fraction-found (a .source .now) (a .at) (sym (c .before .before .before .begins-with .ensures) ∙ c .before .before .if1 .taken) (omega arith))
+    e ∙ sym (fraction-found (a .source .now) (a .at) (sym (begins-with .ensures) ∙ if1 .taken) (omega arith))
 
 returns-2 : tie.Need-returns-2
-returns-2 c = let a = c .before .before .before .before .before .args in
-    let e = c .before .run-end .ensures in
+returns-2 c =
+    let args = c .before .before .before .before .before .args in
+    let run-end = c .before .run-end in
+    let a = args in
+    let e = run-end .ensures in
     let t = c .if2 .left in
     rw (fraction-lost (a .source .now) (a .at) (omega arith)) (sym (add-zero _))
 
 returns-3 : tie.Need-returns-3
-returns-3 c = rw (fraction-none (c .before .before .before .args .source .now) (c .before .before .before .args .at) (sym (c .before .begins-with .ensures) ∙ c .if1 .left)) (sym (add-zero _))
+returns-3 c =
+    let args = c .before .before .before .args in
+    let begins-with = c .before .begins-with in
+    rw (fraction-none (args .source .now) (args .at) (sym (begins-with .ensures) ∙ c .if1 .left)) (sym (add-zero _))
 
 pub fraction-end-spec : {M : Type 1} → statement M
 fraction-end-spec =

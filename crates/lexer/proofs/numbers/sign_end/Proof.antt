@@ -11,13 +11,22 @@ begins-with-requires : tie.Need-begins-with-requires
 begins-with-requires c κs = search needs
 
 add-result : tie.Need-add-result
-add-result c = let i = begins-inside (c .before .before .before .args .source .now) (c .before .before .before .args .at) 43 45 (sym (c .before .begins-with .ensures) ∙ c .if1 .taken) in omega arith
+add-result c =
+    let args = c .before .before .before .args in
+    let begins-with = c .before .begins-with in
+    let i = begins-inside (args .source .now) (args .at) 43 45 (sym (begins-with .ensures) ∙ c .if1 .taken) in omega arith
 
 returns : tie.Need-returns
-returns c = rw (sign-some (c .before .before .before .args .source .now) (c .before .before .before .args .at) (sym (c .before .begins-with .ensures) ∙ c .if1 .taken)) refl
+returns c =
+    let args = c .before .before .before .args in
+    let begins-with = c .before .begins-with in
+    rw (sign-some (args .source .now) (args .at) (sym (begins-with .ensures) ∙ c .if1 .taken)) refl
 
 returns-2 : tie.Need-returns-2
-returns-2 c = rw (sign-none (c .before .before .before .args .source .now) (c .before .before .before .args .at) (sym (c .before .begins-with .ensures) ∙ c .if1 .left)) (sym (add-zero _))
+returns-2 c =
+    let args = c .before .before .before .args in
+    let begins-with = c .before .begins-with in
+    rw (sign-none (args .source .now) (args .at) (sym (begins-with .ensures) ∙ c .if1 .left)) (sym (add-zero _))
 
 pub sign-end-spec : {M : Type 1} → statement M
 sign-end-spec = tie.close (tie.spec begins-with-requires add-result returns returns-2)

@@ -13,34 +13,53 @@ run-end-requires : tie.Need-run-end-requires
 run-end-requires c κs = search needs
 
 returns : tie.Need-returns
-returns c = sym (no-number (c .before .before .before .args .source .now) (c .before .before .before .args .at) (let e = c .before .run-end .ensures in let t = c .if1 .taken in omega arith))
+returns c =
+    let args = c .before .before .before .args in
+    let run-end = c .before .run-end in
+    sym (no-number (args .source .now) (args .at) (let e = run-end .ensures in let t = c .if1 .taken in omega arith))
 
 fraction-end-requires : tie.Need-fraction-end-requires
 fraction-end-requires c κs = search needs
 
 sub-t8 : tie.Need-sub-t8
-sub-t8 c = let e = c .before .before .before .run-end .ensures in omega arith
+sub-t8 c =
+    let run-end = c .before .before .before .run-end in
+    let e = run-end .ensures in omega arith
 
 returns-2 : tie.Need-returns-2
-returns-2 c = let e = c .before .before .before .run-end .ensures in
-    let f = rw e at (c .before .fraction-end .ensures) in
+returns-2 c =
+    let run-end = c .before .before .before .run-end in
+    let fraction-end = c .before .fraction-end in
+    let if1 = c .before .before .if1 in
+    let args = c .before .before .before .before .before .args in
+    let e = run-end .ensures in
+    let f = rw e at (fraction-end .ensures) in
     let t = rw e at (c .if2 .taken) in
-    let n = c .before .before .if1 .left in
-    ap (λ (m : ℕ). Lexeme.Token int m) (omega arith) ∙ sym (whole-number (c .before .before .before .before .before .args .source .now) (c .before .before .before .before .before .args .at) (omega arith) (omega arith))
+    let n = if1 .left in
+    ap (λ (m : ℕ). Lexeme.Token int m) (omega arith) ∙ sym (whole-number (args .source .now) (args .at) (omega arith) (omega arith))
 
 exponent-end-requires : tie.Need-exponent-end-requires
 exponent-end-requires c κs = search needs
 
 sub-t9 : tie.Need-sub-t9
-sub-t9 c = let e = c .before .before .before .before .run-end .ensures in let f = c .before .before .fraction-end .ensures in let g = c .exponent-end .ensures in omega arith
+sub-t9 c =
+    let run-end = c .before .before .before .before .run-end in
+    let fraction-end = c .before .before .fraction-end in
+    let e = run-end .ensures in let f = fraction-end .ensures in let g = c .exponent-end .ensures in omega arith
 
 returns-3 : tie.Need-returns-3
-returns-3 c = let e = c .before .before .before .before .run-end .ensures in
-    let f = rw e at (c .before .before .fraction-end .ensures) in
+returns-3 c =
+    let run-end = c .before .before .before .before .run-end in
+    let fraction-end = c .before .before .fraction-end in
+    let if2 = c .before .if2 in
+    let if1 = c .before .before .before .if1 in
+    let args = c .before .before .before .before .before .before .args in
+    let e = run-end .ensures in
+    let f = rw e at (fraction-end .ensures) in
     let g = rw f at (c .exponent-end .ensures) in
-    let t = rw e at (c .before .if2 .left) in
-    let n = c .before .before .before .if1 .left in
-    ap (λ (m : ℕ). Lexeme.Token float m) (omega arith) ∙ sym (float-number (c .before .before .before .before .before .before .args .source .now) (c .before .before .before .before .before .before .args .at) (omega arith) (omega arith))
+    let t = rw e at (if2 .left) in
+    let n = if1 .left in
+    ap (λ (m : ℕ). Lexeme.Token float m) (omega arith) ∙ sym (float-number (args .source .now) (args .at) (omega arith) (omega arith))
 
 pub unsigned-at-spec : {M : Type 1} → statement M
 unsigned-at-spec =

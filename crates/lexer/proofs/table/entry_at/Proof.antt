@@ -19,7 +19,9 @@ shared-slice-read-result c = search needs
 
 returns : tie.Need-returns
 unfolding entryAt
-returns c = rw (lt-ltb _ _ (c .before .if1 .taken))
+returns c =
+    let if1 = c .before .if1 in
+    rw (lt-ltb _ _ (if1 .taken))
 
 returns-2 : tie.Need-returns-2
 unfolding entryAt

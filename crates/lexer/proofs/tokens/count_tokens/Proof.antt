@@ -7,7 +7,8 @@ use borrow.Author.Tests.{lt-ltb, le-ltb}
 use Rattle.lexer.specs.Editions.{edition17}
 use Rattle.lexer.specs.Table.{counted}
 use Rattle.lexer.proofs.Laws.Scans.{scan-from-start}
-use Rattle.lexer.proofs.Laws.Counts.{Counted, plus-none, skip-inside, token-inside, count-end, count-skip, count-token, count-bad, count-open}
+use Rattle.lexer.proofs.Laws.Counts.{Counted, plus-none, skip-inside, token-inside, count-end, count-skip, count-token, count-bad}
+use Rattle.lexer.proofs.Laws.Counts.{count-open}
 use borrow.Author.Needs.{needs}
 use native.Mathlib.Omega.{arith}
 use Rattle.lexer.proofs.tokens.count_tokens.Statement.{statement}
@@ -24,7 +25,9 @@ unfolding counted
 returns c = rw (lt-ltb _ _ (c .if1 .taken))
 
 loop-holds : tie.Need-loop-holds Inv-loop μ-loop
-loop-holds c = (omega arith, omega arith, rw (scan-from-start edition17 (c .before .before .args .source .now)) (sym (plus-none _)))
+loop-holds c =
+    let args = c .before .before .args in
+    (omega arith, omega arith, rw (scan-from-start edition17 (args .source .now)) (sym (plus-none _)))
 
 lexeme-at-requires : tie.Need-lexeme-at-requires Inv-loop μ-loop
 lexeme-at-requires c κs = search needs
@@ -34,52 +37,102 @@ enum-told c = search needs
 
 returns-2 : tie.Need-returns-2 Inv-loop μ-loop
 unfolding counted
-returns-2 c = rw (le-ltb _ _ (c .before .before .before .before .if1 .left)) (sym (count-end (c .before .before .before .before .before .before .args .source .now) (c .before .before .before .loop .at) (c .before .before .before .loop .count) (c .before .before .before .loop .inv .2) (sym (c .before .before .lexeme-at .ensures) ∙ c .enum-told .given .1)))
+returns-2 c =
+    let if1 = c .before .before .before .before .if1 in
+    let args = c .before .before .before .before .before .before .args in
+    let loop = c .before .before .before .loop in
+    let lexeme-at = c .before .before .lexeme-at in
+    rw (le-ltb _ _ (if1 .left)) (sym (count-end (args .source .now) (loop .at) (loop .count) (loop .inv .2) (sym (lexeme-at .ensures) ∙ c .enum-told .given .1)))
 
 enum-known-next : tie.Need-enum-known-next Inv-loop μ-loop
 enum-known-next c = search needs
 
 add-at : tie.Need-add-at Inv-loop μ-loop
-add-at c = let i = skip-inside (c .before .before .before .before .before .before .before .args .source .now) (c .before .before .before .before .loop .at) _ (sym (c .before .before .before .lexeme-at .ensures) ∙ c .before .next .given .1) in omega arith
+add-at c =
+    let args = c .before .before .before .before .before .before .before .args in
+    let loop = c .before .before .before .before .loop in
+    let lexeme-at = c .before .before .before .lexeme-at in
+    let next = c .before .next in
+    let i = skip-inside (args .source .now) (loop .at) _ (sym (lexeme-at .ensures) ∙ next .given .1) in omega arith
 
 loop-less : tie.Need-loop-less Inv-loop μ-loop
-loop-less c = let i = skip-inside (c .before .before .before .before .before .before .before .args .source .now) (c .before .before .before .before .loop .at) _ (sym (c .before .before .before .lexeme-at .ensures) ∙ c .before .next .given .1) in omega arith
+loop-less c =
+    let args = c .before .before .before .before .before .before .before .args in
+    let loop = c .before .before .before .before .loop in
+    let lexeme-at = c .before .before .before .lexeme-at in
+    let next = c .before .next in
+    let i = skip-inside (args .source .now) (loop .at) _ (sym (lexeme-at .ensures) ∙ next .given .1) in omega arith
 
 loop-again : tie.Need-loop-again Inv-loop μ-loop
-loop-again c = let h = sym (c .before .before .before .lexeme-at .ensures) ∙ c .before .next .given .1 in
-    let i = skip-inside (c .before .before .before .before .before .before .before .args .source .now) (c .before .before .before .before .loop .at) _ h in
-    (i .1, omega arith, count-skip (c .before .before .before .before .before .before .before .args .source .now) (c .before .before .before .before .loop .at) (c .before .before .before .before .loop .count) (c .before .before .before .before .loop .inv .2) _ h)
+loop-again c =
+    let lexeme-at = c .before .before .before .lexeme-at in
+    let next = c .before .next in
+    let args = c .before .before .before .before .before .before .before .args in
+    let loop = c .before .before .before .before .loop in
+    let h = sym (lexeme-at .ensures) ∙ next .given .1 in
+    let i = skip-inside (args .source .now) (loop .at) _ h in
+    (i .1, omega arith, count-skip (args .source .now) (loop .at) (loop .count) (loop .inv .2) _ h)
 
 enum-known-next-2 : tie.Need-enum-known-next-2 Inv-loop μ-loop
 enum-known-next-2 c = search needs
 
 add-count : tie.Need-add-count Inv-loop μ-loop
-add-count c = let i = token-inside (c .before .before .before .before .before .before .before .args .source .now) (c .before .before .before .before .loop .at) _ _ (sym (c .before .before .before .lexeme-at .ensures) ∙ c .before .next2 .given .1) in omega arith
+add-count c =
+    let args = c .before .before .before .before .before .before .before .args in
+    let loop = c .before .before .before .before .loop in
+    let lexeme-at = c .before .before .before .lexeme-at in
+    let next2 = c .before .next2 in
+    let i = token-inside (args .source .now) (loop .at) _ _ (sym (lexeme-at .ensures) ∙ next2 .given .1) in omega arith
 
 add-at-2 : tie.Need-add-at-2 Inv-loop μ-loop
-add-at-2 c = let i = token-inside (c .before .before .before .before .before .before .before .args .source .now) (c .before .before .before .before .loop .at) _ _ (sym (c .before .before .before .lexeme-at .ensures) ∙ c .before .next2 .given .1) in omega arith
+add-at-2 c =
+    let args = c .before .before .before .before .before .before .before .args in
+    let loop = c .before .before .before .before .loop in
+    let lexeme-at = c .before .before .before .lexeme-at in
+    let next2 = c .before .next2 in
+    let i = token-inside (args .source .now) (loop .at) _ _ (sym (lexeme-at .ensures) ∙ next2 .given .1) in omega arith
 
 loop-less-2 : tie.Need-loop-less-2 Inv-loop μ-loop
-loop-less-2 c = let i = token-inside (c .before .before .before .before .before .before .before .args .source .now) (c .before .before .before .before .loop .at) _ _ (sym (c .before .before .before .lexeme-at .ensures) ∙ c .before .next2 .given .1) in omega arith
+loop-less-2 c =
+    let args = c .before .before .before .before .before .before .before .args in
+    let loop = c .before .before .before .before .loop in
+    let lexeme-at = c .before .before .before .lexeme-at in
+    let next2 = c .before .next2 in
+    let i = token-inside (args .source .now) (loop .at) _ _ (sym (lexeme-at .ensures) ∙ next2 .given .1) in omega arith
 
 loop-again-2 : tie.Need-loop-again-2 Inv-loop μ-loop
-loop-again-2 c = let h = sym (c .before .before .before .lexeme-at .ensures) ∙ c .before .next2 .given .1 in
-    let i = token-inside (c .before .before .before .before .before .before .before .args .source .now) (c .before .before .before .before .loop .at) _ _ h in
-    (i .1, omega arith, count-token (c .before .before .before .before .before .before .before .args .source .now) (c .before .before .before .before .loop .at) (c .before .before .before .before .loop .count) (c .before .before .before .before .loop .inv .2) _ _ h)
+loop-again-2 c =
+    let lexeme-at = c .before .before .before .lexeme-at in
+    let next2 = c .before .next2 in
+    let args = c .before .before .before .before .before .before .before .args in
+    let loop = c .before .before .before .before .loop in
+    let h = sym (lexeme-at .ensures) ∙ next2 .given .1 in
+    let i = token-inside (args .source .now) (loop .at) _ _ h in
+    (i .1, omega arith, count-token (args .source .now) (loop .at) (loop .count) (loop .inv .2) _ _ h)
 
 enum-told-2 : tie.Need-enum-told-2 Inv-loop μ-loop
 enum-told-2 c = search needs
 
 returns-3 : tie.Need-returns-3 Inv-loop μ-loop
 unfolding counted
-returns-3 c = rw (le-ltb _ _ (c .before .before .before .before .if1 .left)) (sym (count-bad (c .before .before .before .before .before .before .args .source .now) (c .before .before .before .loop .at) (c .before .before .before .loop .count) (c .before .before .before .loop .inv .2) (sym (c .before .before .lexeme-at .ensures) ∙ c .enum-told2 .given .1)))
+returns-3 c =
+    let if1 = c .before .before .before .before .if1 in
+    let args = c .before .before .before .before .before .before .args in
+    let loop = c .before .before .before .loop in
+    let lexeme-at = c .before .before .lexeme-at in
+    rw (le-ltb _ _ (if1 .left)) (sym (count-bad (args .source .now) (loop .at) (loop .count) (loop .inv .2) (sym (lexeme-at .ensures) ∙ c .enum-told2 .given .1)))
 
 enum-told-3 : tie.Need-enum-told-3 Inv-loop μ-loop
 enum-told-3 c = search needs
 
 returns-4 : tie.Need-returns-4 Inv-loop μ-loop
 unfolding counted
-returns-4 c = rw (le-ltb _ _ (c .before .before .before .before .if1 .left)) (sym (count-open (c .before .before .before .before .before .before .args .source .now) (c .before .before .before .loop .at) (c .before .before .before .loop .count) (c .before .before .before .loop .inv .2) (sym (c .before .before .lexeme-at .ensures) ∙ c .enum-told3 .given .1)))
+returns-4 c =
+    let if1 = c .before .before .before .before .if1 in
+    let args = c .before .before .before .before .before .before .args in
+    let loop = c .before .before .before .loop in
+    let lexeme-at = c .before .before .lexeme-at in
+    rw (le-ltb _ _ (if1 .left)) (sym (count-open (args .source .now) (loop .at) (loop .count) (loop .inv .2) (sym (lexeme-at .ensures) ∙ c .enum-told3 .given .1)))
 
 pub count-tokens-spec : {M : Type 1} → statement M
 count-tokens-spec =

@@ -1,6 +1,7 @@
 -- `lexer::tokens::tokenize` meets its contract: what the count and the table's room decide. Assumes nothing.
 use mathlib.Core.Path.{_∙_, sym}
 use Rattle.lexer.specs.Editions.{edition17}
+use Rattle.lexer.specs.Table.{counted}
 use Rattle.lexer.proofs.Laws.Answers.{clean-count, answer-refused, answer-full, answer-tokens}
 use native.Mathlib.Omega.{arith}
 use borrow.Author.Needs.{needs}
@@ -23,23 +24,55 @@ same-length : tie.Need-same-length
 same-length c = search needs
 
 returns : tie.Need-returns
-returns c = let a = answer-full edition17 (c .before .before .before .before .before .before .before .before .before .args .source .now) (c .before .before .before .before .before .before .before .before .before .args .table .now) _ (sym (c .before .before .before .before .before .before .count-tokens .ensures) ∙ c .before .before .before .before .found2 .given .1) (let r = c .before .room .ensures in let t = c .if1 .taken in omega arith) in
+returns c =
+    let count-tokens = c .before .before .before .before .before .before .count-tokens in
+    let found2 = c .before .before .before .before .found2 in
+    let room = c .before .room in
+    let args = c .before .before .before .before .before .before .before .before .before .args in
+    let counted = sym (count-tokens .ensures) ∙ found2 .given .1 in
+    let e = room .ensures in
+    let full = c .if1 .taken in
+    let a = answer-full edition17 (args .source .now) (args .table .now) _ counted (omega arith) in
     (sym (a .says), sym (a .leaves))
 
 fill-requires : tie.Need-fill-requires
-fill-requires c κs = let k = clean-count edition17 (c .before .before .before .before .before .before .before .before .before .before .args .source .now) _ (sym (c .before .before .before .before .before .before .before .count-tokens .ensures) ∙ c .before .before .before .before .before .found2 .given .1) in
-    (k .short, (k .all, (let n = k .count in let r = c .before .before .room .ensures in let t = c .before .if1 .left in omega arith)))
+fill-requires c κs =
+    let args = c .before .before .before .before .before .before .before .before .before .before .args in
+    let count-tokens = c .before .before .before .before .before .before .before .count-tokens in
+    let found2 = c .before .before .before .before .before .found2 in
+    let room = c .before .before .room in
+    let if1 = c .before .if1 in
+    let k = clean-count edition17 (args .source .now) _ (sym (count-tokens .ensures) ∙ found2 .given .1) in
+    let e = room .ensures in
+    let fits = if1 .left in
+    let n = k .count in
+    (k .short, (k .all, omega arith))
 
 returns-2 : tie.Need-returns-2
-returns-2 c = let a = answer-refused edition17 (c .before .before .before .before .before .before .args .source .now) (c .before .before .before .before .before .before .args .table .now) _ _ (sym (c .before .before .before .count-tokens .ensures) ∙ c .before .found .given .1) in
+returns-2 c =
+    let count-tokens = c .before .before .before .count-tokens in
+    let found = c .before .found in
+    let args = c .before .before .before .before .before .before .args in
+    let counted = sym (count-tokens .ensures) ∙ found .given .1 in
+    let a = answer-refused edition17 (args .source .now) (args .table .now) _ _ counted in
     (sym (a .says), sym (a .leaves))
 
 same-length-2 : tie.Need-same-length-2
 same-length-2 c = search needs
 
 returns-3 : tie.Need-returns-3
-returns-3 c = let a = answer-tokens edition17 (c .before .before .before .before .before .before .before .before .before .before .before .before .before .args .source .now) (c .before .before .before .before .before .before .before .before .before .before .before .before .before .args .table .now) _ (sym (c .before .before .before .before .before .before .before .before .before .before .count-tokens .ensures) ∙ c .before .before .before .before .before .before .before .before .found2 .given .1) (let r = c .before .before .before .before .before .room .ensures in let t = c .before .before .before .before .if1 .left in omega arith) in
-    (sym (a .says), c .before .before .fill .ensures ∙ sym (a .leaves))
+returns-3 c =
+    let count-tokens = c .before .before .before .before .before .before .before .before .before .before .count-tokens in
+    let found2 = c .before .before .before .before .before .before .before .before .found2 in
+    let room = c .before .before .before .before .before .room in
+    let if1 = c .before .before .before .before .if1 in
+    let args = c .before .before .before .before .before .before .before .before .before .before .before .before .before .args in
+    let fill = c .before .before .fill in
+    let counted = sym (count-tokens .ensures) ∙ found2 .given .1 in
+    let e = room .ensures in
+    let fits = if1 .left in
+    let a = answer-tokens edition17 (args .source .now) (args .table .now) _ counted (omega arith) in
+    (sym (a .says), fill .ensures ∙ sym (a .leaves))
 
 pub tokenize-spec : {M : Type 1} → statement M
 tokenize-spec =

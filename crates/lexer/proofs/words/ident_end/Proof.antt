@@ -23,21 +23,36 @@ sub-if1 : tie.Need-sub-if1
 sub-if1 c = search needs
 
 shared-slice-read-letter-kind : tie.Need-shared-slice-read-letter-kind
-shared-slice-read-letter-kind c = one-inside (c .before .before .before .before .args .source .now) (c .before .before .before .before .args .at) (one (c .before))
+shared-slice-read-letter-kind c =
+    let args = c .before .before .before .before .args in
+    let at-if1 = c .before in
+    one-inside (args .source .now) (args .at) (one (at-if1))
 
 letter-kind-requires : tie.Need-letter-kind-requires
 letter-kind-requires c κs = search needs
 
 returns : tie.Need-returns
-returns c = rw (ident-one-at (c .before .before .before .before .before .before .args .source .now) (c .before .before .before .before .before .before .args .at) (one (c .before .before .before)), eq-eqb _ _ (sym (c .before .letter-kind .ensures) ∙ c .if2 .taken))
-    (c .before .before .before .before .word-end .ensures ∙ ap (λ (n : ℕ). c .before .before .before .before .before .before .args .at + n) (one (c .before .before .before)))
+returns c =
+    let args = c .before .before .before .before .before .before .args in
+    let at-if1 = c .before .before .before in
+    let letter-kind = c .before .letter-kind in
+    let word-end = c .before .before .before .before .word-end in
+    rw (ident-one-at (args .source .now) (args .at) (one (at-if1)), eq-eqb _ _ (sym (letter-kind .ensures) ∙ c .if2 .taken))
+    (word-end .ensures ∙ ap (λ (n : ℕ). args .at + n) (one (at-if1)))
 
 returns-2 : tie.Need-returns-2
-returns-2 c = rw (ident-one-at (c .before .before .before .before .before .before .args .source .now) (c .before .before .before .before .before .before .args .at) (one (c .before .before .before)), ne-eqb _ _ (λ e. c .if2 .left (c .before .letter-kind .ensures ∙ e)))
+returns-2 c =
+    let args = c .before .before .before .before .before .before .args in
+    let at-if1 = c .before .before .before in
+    let letter-kind = c .before .letter-kind in
+    rw (ident-one-at (args .source .now) (args .at) (one (at-if1)), ne-eqb _ _ (λ e. c .if2 .left (letter-kind .ensures ∙ e)))
     (sym (add-zero _))
 
 returns-3 : tie.Need-returns-3
-returns-3 c = c .before .word-end .ensures ∙ sym (ap (λ (n : ℕ). c .before .before .before .args .at + n) (ident-other _ (λ e. c .if1 .left (let w = c .before .word-end .ensures in omega arith))))
+returns-3 c =
+    let word-end = c .before .word-end in
+    let args = c .before .before .before .args in
+    word-end .ensures ∙ sym (ap (λ (n : ℕ). args .at + n) (ident-other _ (λ e. c .if1 .left (let w = word-end .ensures in omega arith))))
 
 pub ident-end-spec : {M : Type 1} → statement M
 ident-end-spec =

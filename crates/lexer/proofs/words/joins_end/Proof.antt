@@ -24,26 +24,50 @@ two-colons-requires : tie.Need-two-colons-requires Inv-loop μ-loop
 two-colons-requires c κs = search needs
 
 add-part : tie.Need-add-part Inv-loop μ-loop
-add-part c = let i = colons-inside (c .before .before .before .before .args .source .now) (c .before .before .loop .i) (sym (c .before .two-colons .ensures) ∙ c .if1 .taken) in omega arith
+add-part c =
+    let args = c .before .before .before .before .args in
+    let loop = c .before .before .loop in
+    let two-colons = c .before .two-colons in
+    let i = colons-inside (args .source .now) (loop .i) (sym (two-colons .ensures) ∙ c .if1 .taken) in omega arith
 
 ident-end-requires : tie.Need-ident-end-requires Inv-loop μ-loop
 ident-end-requires c κs = search needs
 
 returns : tie.Need-returns Inv-loop μ-loop
-returns c = sym (add-zero _) ∙ rw (joins-lost-at (c .before .before .before .before .before .before .args .source .now) (c .before .before .before .before .loop .i) (let e = c .before .ident-end .ensures in let t = c .if2 .taken in omega arith)) at (c .before .before .before .before .loop .inv)
+returns c =
+    let args = c .before .before .before .before .before .before .args in
+    let loop = c .before .before .before .before .loop in
+    let ident-end = c .before .ident-end in
+    sym (add-zero _) ∙ rw (joins-lost-at (args .source .now) (loop .i) (let e = ident-end .ensures in let t = c .if2 .taken in omega arith)) at (loop .inv)
 
 loop-less : tie.Need-loop-less Inv-loop μ-loop
-loop-less c = let i = colons-inside (c .before .before .before .before .before .before .args .source .now) (c .before .before .before .before .loop .i) (sym (c .before .before .before .two-colons .ensures) ∙ c .before .before .if1 .taken) in
-    let e = c .before .ident-end .ensures in
+loop-less c =
+    let args = c .before .before .before .before .before .before .args in
+    let loop = c .before .before .before .before .loop in
+    let two-colons = c .before .before .before .two-colons in
+    let if1 = c .before .before .if1 in
+    let ident-end = c .before .ident-end in
+    let i = colons-inside (args .source .now) (loop .i) (sym (two-colons .ensures) ∙ if1 .taken) in
+    let e = ident-end .ensures in
     let t = c .if2 .left in
     omega arith
 
 loop-again : tie.Need-loop-again Inv-loop μ-loop
-loop-again c = let more = joins-more-at (c .before .before .before .before .before .before .args .source .now) (c .before .before .before .before .loop .i) (sym (c .before .before .before .two-colons .ensures) ∙ c .before .before .if1 .taken) in
-    rw (c .before .ident-end .ensures) (sym (more (let e = c .before .ident-end .ensures in let t = c .if2 .left in omega arith)) ∙ c .before .before .before .before .loop .inv)
+loop-again c =
+    let args = c .before .before .before .before .before .before .args in
+    let loop = c .before .before .before .before .loop in
+    let two-colons = c .before .before .before .two-colons in
+    let if1 = c .before .before .if1 in
+    let ident-end = c .before .ident-end in
+    let more = joins-more-at (args .source .now) (loop .i) (sym (two-colons .ensures) ∙ if1 .taken) in
+    rw (ident-end .ensures) (sym (more (let e = ident-end .ensures in let t = c .if2 .left in omega arith)) ∙ loop .inv)
 
 returns-2 : tie.Need-returns-2 Inv-loop μ-loop
-returns-2 c = sym (add-zero _) ∙ rw (joins-none-at (c .before .before .before .before .args .source .now) (c .before .before .loop .i) (sym (c .before .two-colons .ensures) ∙ c .if1 .left)) at (c .before .before .loop .inv)
+returns-2 c =
+    let args = c .before .before .before .before .args in
+    let loop = c .before .before .loop in
+    let two-colons = c .before .two-colons in
+    sym (add-zero _) ∙ rw (joins-none-at (args .source .now) (loop .i) (sym (two-colons .ensures) ∙ c .if1 .left)) at (loop .inv)
 
 pub joins-end-spec : {M : Type 1} → statement M
 joins-end-spec =

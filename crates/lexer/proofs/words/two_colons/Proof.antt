@@ -19,19 +19,31 @@ shared-slice-read-result c = search needs
 
 returns : tie.Need-returns
 unfolding twoColons and
-returns c = rw (front-two (c .before .before .before .before .before .args .source .now) (c .before .before .before .before .before .args .at) (c .before .before .before .if2 .taken), eq-eqb _ _ (c .before .if3 .taken))
+returns c =
+    let args = c .before .before .before .before .before .args in
+    let if2 = c .before .before .before .if2 in
+    let if3 = c .before .if3 in
+    rw (front-two (args .source .now) (args .at) (if2 .taken), eq-eqb _ _ (if3 .taken))
 
 returns-2 : tie.Need-returns-2
 unfolding twoColons and
-returns-2 c = rw (front-two (c .before .before .before .before .args .source .now) (c .before .before .before .before .args .at) (c .before .before .if2 .taken), ne-eqb _ _ (c .if3 .left))
+returns-2 c =
+    let args = c .before .before .before .before .args in
+    let if2 = c .before .before .if2 in
+    rw (front-two (args .source .now) (args .at) (if2 .taken), ne-eqb _ _ (c .if3 .left))
 
 returns-3 : tie.Need-returns-3
 unfolding twoColons
-returns-3 c = rw (front-last (c .before .before .args .source .now) (c .before .before .args .at) (c .before .if1 .taken) (c .if2 .left))
+returns-3 c =
+    let args = c .before .before .args in
+    let if1 = c .before .if1 in
+    rw (front-last (args .source .now) (args .at) (if1 .taken) (c .if2 .left))
 
 returns-4 : tie.Need-returns-4
 unfolding twoColons
-returns-4 c = rw (front-none (c .before .args .source .now) (c .before .args .at) (c .if1 .left))
+returns-4 c =
+    let args = c .before .args in
+    rw (front-none (args .source .now) (args .at) (c .if1 .left))
 
 pub two-colons-spec : {M : Type 1} → statement M
 two-colons-spec =

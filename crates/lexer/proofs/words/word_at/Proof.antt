@@ -18,40 +18,67 @@ word-end-requires : tie.Need-word-end-requires
 word-end-requires c κs = search needs
 
 returns : tie.Need-returns
-returns c = sym (no-word (c .before .before .before .args .source .now) (c .before .before .before .args .at) (let e = c .before .word-end .ensures in let t = c .if1 .taken in omega arith))
+returns c =
+    let args = c .before .before .before .args in
+    let word-end = c .before .word-end in
+    sym (no-word (args .source .now) (args .at) (let e = word-end .ensures in let t = c .if1 .taken in omega arith))
 
 sub-if2 : tie.Need-sub-if2
-sub-if2 c = let e = c .before .word-end .ensures in omega arith
+sub-if2 c =
+    let word-end = c .before .word-end in
+    let e = word-end .ensures in omega arith
 
 shared-slice-read-letter-kind : tie.Need-shared-slice-read-letter-kind
-shared-slice-read-letter-kind c = one-inside (c .before .before .before .before .before .args .source .now) (c .before .before .before .before .before .args .at) (one (c .before))
+shared-slice-read-letter-kind c =
+    let args = c .before .before .before .before .before .args in
+    let at-if2 = c .before in
+    one-inside (args .source .now) (args .at) (one (at-if2))
 
 letter-kind-requires : tie.Need-letter-kind-requires
 letter-kind-requires c κs = search needs
 
 returns-2 : tie.Need-returns-2
-returns-2 c = rw (c .before .letter-kind .ensures) (sym (letter-word (c .before .before .before .before .before .before .before .args .source .now) (c .before .before .before .before .before .before .before .args .at) (one (c .before .before .before)) (λ e. c .if3 .taken (c .before .letter-kind .ensures ∙ e))))
+returns-2 c =
+    let letter-kind = c .before .letter-kind in
+    let args = c .before .before .before .before .before .before .before .args in
+    let at-if2 = c .before .before .before in
+    rw (letter-kind .ensures) (sym (letter-word (args .source .now) (args .at) (one (at-if2)) (λ e. c .if3 .taken (letter-kind .ensures ∙ e))))
 
 joined-requires : tie.Need-joined-requires
-joined-requires c κs = let e = c .before .before .before .before .before .word-end .ensures in omega arith
+joined-requires c κs =
+    let word-end = c .before .before .before .before .before .word-end in
+    let e = word-end .ensures in omega arith
 
 returns-3 : tie.Need-returns-3
-returns-3 c = let one = one (c .before .before .before .before) in
-    let kind = kind-one-at (c .before .before .before .before .before .before .before .before .args .source .now) (c .before .before .before .before .before .before .before .before .args .at) one ∙ sym (c .before .before .letter-kind .ensures) ∙ c .before .if3 .left in
-    c .joined .ensures ∙ rw (c .before .before .before .before .before .before .word-end .ensures, add-sub-cancel-left (c .before .before .before .before .before .before .before .before .args .at) _)
-    (sym (ident-word (c .before .before .before .before .before .before .before .before .args .source .now) (c .before .before .before .before .before .before .before .before .args .at) (omega arith) (rw one kind)))
+returns-3 c =
+    let at-if2 = c .before .before .before .before in
+    let args = c .before .before .before .before .before .before .before .before .args in
+    let letter-kind = c .before .before .letter-kind in
+    let if3 = c .before .if3 in
+    let word-end = c .before .before .before .before .before .before .word-end in
+    let one = one (at-if2) in
+    let kind = kind-one-at (args .source .now) (args .at) one ∙ sym (letter-kind .ensures) ∙ if3 .left in
+    c .joined .ensures ∙ rw (word-end .ensures, add-sub-cancel-left (args .at) _)
+    (sym (ident-word (args .source .now) (args .at) (omega arith) (rw one kind)))
 
 joined-requires-2 : tie.Need-joined-requires-2
-joined-requires-2 c κs = let e = c .before .before .word-end .ensures in omega arith
+joined-requires-2 c κs =
+    let word-end = c .before .before .word-end in
+    let e = word-end .ensures in omega arith
 
 returns-4 : tie.Need-returns-4
-returns-4 c = let e = c .before .before .before .word-end .ensures in
-    let first = c .before .before .if1 .left in
-    let second = c .before .if2 .left in
-    let d = drop (c .before .before .before .before .before .args .at) (c .before .before .before .before .before .args .source .now) in
+returns-4 c =
+    let word-end = c .before .before .before .word-end in
+    let if1 = c .before .before .if1 in
+    let if2 = c .before .if2 in
+    let args = c .before .before .before .before .before .args in
+    let e = word-end .ensures in
+    let first = if1 .left in
+    let second = if2 .left in
+    let d = drop (args .at) (args .source .now) in
     let kind = kind-other (wordLength d) d (word-le d) (λ (q : wordLength d ≡ 1). second (omega arith)) in
-    c .joined2 .ensures ∙ rw (e, add-sub-cancel-left (c .before .before .before .before .before .args .at) _)
-    (sym (ident-word (c .before .before .before .before .before .args .source .now) (c .before .before .before .before .before .args .at) (omega arith) kind))
+    c .joined2 .ensures ∙ rw (e, add-sub-cancel-left (args .at) _)
+    (sym (ident-word (args .source .now) (args .at) (omega arith) kind))
 
 pub word-at-spec : {M : Type 1} → statement M
 word-at-spec =

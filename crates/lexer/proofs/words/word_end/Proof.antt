@@ -23,17 +23,30 @@ run-end-requires : tie.Need-run-end-requires
 run-end-requires c κs = search needs
 
 returns : tie.Need-returns
-returns c = let a = c .before .before .before .before .before .before .args in
-    let l = sym (class-letter _ (c .before .before .before .shared-slice-known2 .given (a .at) .fits)) ∙ eq-eqb _ _ (sym (c .before .before .class-of .ensures) ∙ c .before .if2 .taken) in
-    rw (front-one (a .source .now) (a .at) (c .before .before .before .before .if1 .taken), word-letter _ _ l) (let e = c .run-end .ensures in omega arith)
+returns c =
+    let args = c .before .before .before .before .before .before .args in
+    let shared-slice-known2 = c .before .before .before .shared-slice-known2 in
+    let class-of = c .before .before .class-of in
+    let if2 = c .before .if2 in
+    let if1 = c .before .before .before .before .if1 in
+    let a = args in
+    let l = sym (class-letter _ (shared-slice-known2 .given (a .at) .fits)) ∙ eq-eqb _ _ (sym (class-of .ensures) ∙ if2 .taken) in
+    rw (front-one (a .source .now) (a .at) (if1 .taken), word-letter _ _ l) (let e = c .run-end .ensures in omega arith)
 
 returns-2 : tie.Need-returns-2
-returns-2 c = let a = c .before .before .before .before .before .args in
-    let l = sym (class-letter _ (c .before .before .shared-slice-known2 .given (a .at) .fits)) ∙ ne-eqb _ _ (λ e. c .if2 .left (c .before .class-of .ensures ∙ e)) in
-    rw (front-one (a .source .now) (a .at) (c .before .before .before .if1 .taken), word-none _ _ l) (sym (add-zero _))
+returns-2 c =
+    let args = c .before .before .before .before .before .args in
+    let shared-slice-known2 = c .before .before .shared-slice-known2 in
+    let class-of = c .before .class-of in
+    let if1 = c .before .before .before .if1 in
+    let a = args in
+    let l = sym (class-letter _ (shared-slice-known2 .given (a .at) .fits)) ∙ ne-eqb _ _ (λ e. c .if2 .left (class-of .ensures ∙ e)) in
+    rw (front-one (a .source .now) (a .at) (if1 .taken), word-none _ _ l) (sym (add-zero _))
 
 returns-3 : tie.Need-returns-3
-returns-3 c = rw (front-none (c .before .before .args .source .now) (c .before .before .args .at) (c .if1 .left), word-nil) (sym (add-zero _))
+returns-3 c =
+    let args = c .before .before .args in
+    rw (front-none (args .source .now) (args .at) (c .if1 .left), word-nil) (sym (add-zero _))
 
 pub word-end-spec : {M : Type 1} → statement M
 word-end-spec =

@@ -32,10 +32,15 @@ returns c = rw (lt-ltb _ _ (c .if1 .taken))
 
 returns-2 : tie.Need-returns-2 Inv-loop μ-loop
 unfolding checked firstBad
-returns-2 c = rw (le-ltb _ _ (c .before .if1 .left), entries-none (c .before .before .before .args .list .now) (c .if2 .taken))
+returns-2 c =
+    let if1 = c .before .if1 in
+    let args = c .before .before .before .args in
+    rw (le-ltb _ _ (if1 .left), entries-none (args .list .now) (c .if2 .taken))
 
 loop-holds : tie.Need-loop-holds Inv-loop μ-loop
-loop-holds c = (omega arith, ap (firstBad edition17 0) (entries-some (c .before .before .before .args .list .now) (let z = c .if2 .left in omega arith)))
+loop-holds c =
+    let args = c .before .before .before .args in
+    (omega arith, ap (firstBad edition17 0) (entries-some (args .list .now) (let z = c .if2 .left in omega arith)))
 
 run-end-requires : tie.Need-run-end-requires Inv-loop μ-loop
 run-end-requires c κs = search needs
@@ -47,34 +52,63 @@ part-is-name-start : tie.Need-part-is-name-start Inv-loop μ-loop
 part-is-name-start c = let e = c .run-end .ensures in omega arith
 
 part-is-name-end : tie.Need-part-is-name-end Inv-loop μ-loop
-part-is-name-end c = let e = c .run-end .ensures in let i = line-inside edition17 (c .before .before .before .before .before .args .list .now) (c .before .loop .at) (c .before .loop .inv .0) in omega arith
+part-is-name-end c =
+    let args = c .before .before .before .before .before .args in
+    let loop = c .before .loop in
+    let e = c .run-end .ensures in let i = line-inside edition17 (args .list .now) (loop .at) (loop .inv .0) in omega arith
 
 is-name-requires : tie.Need-is-name-requires Inv-loop μ-loop
 is-name-requires c κs = search needs
 
 returns-3 : tie.Need-returns-3 Inv-loop μ-loop
 unfolding checked
-returns-3 c = rw (le-ltb _ _ (c .before .before .before .before .before .before .if1 .left))
-    (sym (c .before .before .before .before .loop .inv .1 ∙ bad-here edition17 (c .before .before .before .before .before .before .before .before .args .list .now) (c .before .before .before .before .loop .at) (sym (asked (c .before)) ∙ not-true _ (c .if3 .taken))))
+returns-3 c =
+    let if1 = c .before .before .before .before .before .before .if1 in
+    let loop = c .before .before .before .before .loop in
+    let args = c .before .before .before .before .before .before .before .before .args in
+    let at-is-name = c .before in
+    rw (le-ltb _ _ (if1 .left))
+    (sym (loop .inv .1 ∙ bad-here edition17 (args .list .now) (loop .at) (sym (asked (at-is-name)) ∙ not-true _ (c .if3 .taken))))
 
 returns-4 : tie.Need-returns-4 Inv-loop μ-loop
 unfolding checked
-returns-4 c = rw (le-ltb _ _ (c .before .before .before .before .before .before .before .if1 .left))
-    (sym (c .before .before .before .before .before .loop .inv .1 ∙ good-last edition17 (c .before .before .before .before .before .before .before .before .before .args .list .now) (c .before .before .before .before .before .loop .at) (c .before .before .before .before .before .loop .inv .0) (sym (c .before .before .before .before .run-end .ensures) ∙ c .if4 .taken)
-    (sym (asked (c .before .before)) ∙ not-false _ (c .before .if3 .left))))
+returns-4 c =
+    let if1 = c .before .before .before .before .before .before .before .if1 in
+    let loop = c .before .before .before .before .before .loop in
+    let args = c .before .before .before .before .before .before .before .before .before .args in
+    let run-end = c .before .before .before .before .run-end in
+    let at-is-name = c .before .before in
+    let if3 = c .before .if3 in
+    rw (le-ltb _ _ (if1 .left))
+    (sym (loop .inv .1 ∙ good-last edition17 (args .list .now) (loop .at) (loop .inv .0) (sym (run-end .ensures) ∙ c .if4 .taken)
+    (sym (asked (at-is-name)) ∙ not-false _ (if3 .left))))
 
 add-at : tie.Need-add-at Inv-loop μ-loop
-add-at c = let e = c .before .before .before .before .run-end .ensures in let i = line-inside edition17 (c .before .before .before .before .before .before .before .before .before .args .list .now) (c .before .before .before .before .before .loop .at) (c .before .before .before .before .before .loop .inv .0) in let f = c .if4 .left in omega arith
+add-at c =
+    let run-end = c .before .before .before .before .run-end in
+    let args = c .before .before .before .before .before .before .before .before .before .args in
+    let loop = c .before .before .before .before .before .loop in
+    let e = run-end .ensures in let i = line-inside edition17 (args .list .now) (loop .at) (loop .inv .0) in let f = c .if4 .left in omega arith
 
 loop-less : tie.Need-loop-less Inv-loop μ-loop
-loop-less c = let e = c .before .before .before .before .run-end .ensures in let i = line-inside edition17 (c .before .before .before .before .before .before .before .before .before .args .list .now) (c .before .before .before .before .before .loop .at) (c .before .before .before .before .before .loop .inv .0) in let f = c .if4 .left in omega arith
+loop-less c =
+    let run-end = c .before .before .before .before .run-end in
+    let args = c .before .before .before .before .before .before .before .before .before .args in
+    let loop = c .before .before .before .before .before .loop in
+    let e = run-end .ensures in let i = line-inside edition17 (args .list .now) (loop .at) (loop .inv .0) in let f = c .if4 .left in omega arith
 
 loop-again : tie.Need-loop-again Inv-loop μ-loop
-loop-again c = let e = c .before .before .before .before .run-end .ensures in
-    let i = line-inside edition17 (c .before .before .before .before .before .before .before .before .before .args .list .now) (c .before .before .before .before .before .loop .at) (c .before .before .before .before .before .loop .inv .0) in
+loop-again c =
+    let run-end = c .before .before .before .before .run-end in
+    let args = c .before .before .before .before .before .before .before .before .before .args in
+    let loop = c .before .before .before .before .before .loop in
+    let at-is-name = c .before .before in
+    let if3 = c .before .if3 in
+    let e = run-end .ensures in
+    let i = line-inside edition17 (args .list .now) (loop .at) (loop .inv .0) in
     let f = c .if4 .left in
-    let g = good-here edition17 (c .before .before .before .before .before .before .before .before .before .args .list .now) (c .before .before .before .before .before .loop .at) (omega arith) (sym (asked (c .before .before)) ∙ not-false _ (c .before .if3 .left)) in
-    (omega arith, c .before .before .before .before .before .loop .inv .1 ∙ rw e g)
+    let g = good-here edition17 (args .list .now) (loop .at) (omega arith) (sym (asked (at-is-name)) ∙ not-false _ (if3 .left)) in
+    (omega arith, loop .inv .1 ∙ rw e g)
 
 pub check-names-spec : {M : Type 1} → statement M
 check-names-spec =

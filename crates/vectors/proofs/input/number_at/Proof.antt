@@ -31,10 +31,16 @@ mul-value : tie.Need-mul-value Inv-loop μ-loop
 mul-value c = search needs
 
 cast-value : tie.Need-cast-value Inv-loop μ-loop
-cast-value c = let k = c .before .before .shared-slice-known .given (c .before .before .before .before .loop .i) in omega arith
+cast-value c =
+    let shared-slice-known = c .before .before .shared-slice-known in
+    let loop = c .before .before .before .before .loop in
+    let k = shared-slice-known .given (loop .i) in omega arith
 
 add-value : tie.Need-add-value Inv-loop μ-loop
-add-value c = let k = c .before .before .shared-slice-known .given (c .before .before .before .before .loop .i) in omega arith
+add-value c =
+    let shared-slice-known = c .before .before .shared-slice-known in
+    let loop = c .before .before .before .before .loop in
+    let k = shared-slice-known .given (loop .i) in omega arith
 
 add-i : tie.Need-add-i Inv-loop μ-loop
 add-i c = search needs
@@ -43,7 +49,10 @@ loop-less : tie.Need-loop-less Inv-loop μ-loop
 loop-less c = search needs
 
 loop-again : tie.Need-loop-again Inv-loop μ-loop
-loop-again c = let k = c .before .before .shared-slice-known .given (c .before .before .before .before .loop .i) in omega arith
+loop-again c =
+    let shared-slice-known = c .before .before .shared-slice-known in
+    let loop = c .before .before .before .before .loop in
+    let k = shared-slice-known .given (loop .i) in omega arith
 
 returns-3 : tie.Need-returns-3 Inv-loop μ-loop
 returns-3 c = search needs

@@ -26,7 +26,9 @@ shared-slice-read-print-decimal : tie.Need-shared-slice-read-print-decimal Inv-l
 shared-slice-read-print-decimal c = search needs
 
 cast-print-decimal : tie.Need-cast-print-decimal Inv-loop μ-loop
-cast-print-decimal c = let k = c .shared-slice-known2 .given (c .before .before .before .loop .i) in omega arith
+cast-print-decimal c =
+    let loop = c .before .before .before .loop in
+    let k = c .shared-slice-known2 .given (loop .i) in omega arith
 
 print-decimal-requires : tie.Need-print-decimal-requires Inv-loop μ-loop
 print-decimal-requires c κs = search needs
