@@ -1,12 +1,14 @@
--- The rows of the token table: how long they are, and how one more is written. Assumes nothing.
-use Prim.Native.Nat.{ℕ, _+_, _*_, _≤_}
+-- The rows of the token table: how long they are, how one more is written, and what the leaves find in them.
+-- Assumes nothing.
+use Prim.Native.Nat.{ℕ, zero, suc, _+_, _*_, _<_, _≤_}
 use mathlib.Core.Path.{_≡_, refl, _∙_}
 use mathlib.Core.List.{List, [], _∷_, _++_, append-assoc}
 use native.Mathlib.Omega.{arith}
-use lib.ListN.{length, drop, length-append, length-drop}
+use lib.ListN.{length, drop, getD, length-append, length-drop, List·getD-append}
 use lib.Seq.{sets, sets-eq, take-at, drop-drop, drop-append-add}
+use borrow.Author.Tests.{lt-ltb}
 use Rattle.lexer.specs.Tokens.{Token}
-use Rattle.lexer.specs.Table.{tokenWidth, tokenRow, tokenRows, filled}
+use Rattle.lexer.specs.Table.{tokenWidth, tokenRoom, tokenRow, tokenRows, filled, entryAt, kindAt, startAt, lengthAt}
 
 pub rows-length : (ts : List Token) → length (tokenRows ts) ≡ length ts * tokenWidth
 unfolding tokenRows tokenRow
@@ -50,3 +52,41 @@ module _ (ts : List Token) (t : Token) (table : List ℕ) where
       let l = filled-length ts table (omega arith) in
       sets-eq (t .kind ∷ t .start ∷ t .length ∷ []) (filled ts table) n (omega arith)
       ∙ rw (last-row, take-at (tokenRows ts) (drop n table) n (rows-length ts), more-rows, rows-append, append-assoc)
+
+-- a number of a row, in the rows of all tokens
+row-entry : (ts : List Token) (none : Token) (i column : ℕ) → i < length ts → column < tokenWidth
+    → getD (tokenRows ts) (i * tokenWidth + column) 0 ≡ getD (tokenRow (getD ts i none)) column 0
+unfolding tokenRows tokenRow
+row-entry [] none i column h w = absurd (omega arith)
+row-entry (t ∷ ts) none zero zero h w = refl
+row-entry (t ∷ ts) none zero (suc zero) h w = refl
+row-entry (t ∷ ts) none zero (suc (suc zero)) h w = refl
+row-entry (t ∷ ts) none zero (suc (suc (suc c))) h w = absurd (omega arith)
+row-entry (t ∷ ts) none (suc i) column h w =
+    let next : suc i * tokenWidth + column ≡ suc (suc (suc (i * tokenWidth + column))) = omega arith in
+    rw next (row-entry ts none i column (omega arith) w)
+
+-- what the leaves find in a filled table: the token of that row
+module _ (ts : List Token) (table : List ℕ) (room : length ts * tokenWidth ≤ length table) (none : Token) (i : ℕ) (row : i < length ts) where
+  filled-entry : (column : ℕ) → column < tokenWidth → entryAt column (filled ts table) i ≡ getD (tokenRow (getD ts i none)) column 0
+  unfolding entryAt filled
+  filled-entry column w =
+      let l = filled-length ts table room in
+      let r = rows-length ts in
+      rw (
+        lt-ltb i (tokenRoom (filled ts table)) (omega arith),
+        List·getD-append (tokenRows ts) (drop (length ts * tokenWidth) table) 0 (i * tokenWidth + column) (omega arith),
+      )
+      (row-entry ts none i column row w)
+
+  pub filled-kind : kindAt (filled ts table) i ≡ getD ts i none .kind
+  unfolding tokenRow
+  filled-kind = filled-entry 0 (omega arith)
+
+  pub filled-start : startAt (filled ts table) i ≡ getD ts i none .start
+  unfolding tokenRow
+  filled-start = filled-entry 1 (omega arith)
+
+  pub filled-token-length : lengthAt (filled ts table) i ≡ getD ts i none .length
+  unfolding tokenRow
+  filled-token-length = filled-entry 2 (omega arith)
