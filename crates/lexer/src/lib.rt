@@ -5,6 +5,7 @@ mod lexemes;
 mod marks;
 mod numbers;
 mod table;
+mod tables;
 mod tokens;
 mod words;
 

@@ -47,12 +47,11 @@ fn print_rows(rows: &[u32], from: usize, to: usize) {
     }
 }
 
-// How many of the first `whole` rows there are up to the last one that does not hold the pattern.
-fn changed_rows(rows: &[u32], whole: usize) -> usize
-    requires { ⌜ whole ≤ tokenRoom (now rows) ⌝ }
-    ensures { λ r. ⌜ r ≤ whole ⌝ }
+// How many of the whole rows there are up to the last one that does not hold the pattern.
+fn changed_rows(rows: &[u32]) -> usize
+    ensures { λ r. ⌜ r ≤ tokenRoom (now (rows .entry)) ⌝ }
 {
-    let mut left = whole;
+    let mut left = lexer::room(rows);
     while 0 < left {
         let first = (left - 1) * lexer::WIDTH;
         let mut i = first;
@@ -72,7 +71,7 @@ fn changed_rows(rows: &[u32], whole: usize) -> usize
 // The table: its whole rows, those at the end that hold the pattern as one line, and the numbers after them.
 pub fn print_table(rows: &[u32]) {
     let whole = lexer::room(rows);
-    let changed = changed_rows(rows, whole);
+    let changed = changed_rows(rows);
     print_rows(rows, 0, changed * lexer::WIDTH);
     if changed < whole {
         io::write_all(OUT, b"unchanged ");

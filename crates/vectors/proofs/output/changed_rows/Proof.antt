@@ -7,16 +7,20 @@ use Rattle.vectors.proofs.output.changed_rows.Statement.{statement}
 use Rattle.vectors.proofs.output.changed_rows.Tie as tie
 
 abbrev Inv-loop2 : tie.InvT-loop2
-Inv-loop2 rows whole left first i₀ i = (left ≤ whole) × (0 < left) × (whole ≤ tokenRoom rows) × (first ≡ (left - 1) * 3) × (i ≤ first + 3)
+Inv-loop2 rows left first i₀ i = (left ≤ tokenRoom rows) × (0 < left) × (first ≡ (left - 1) * 3) × (i ≤ first + 3)
 
 abbrev μ-loop2 : tie.MeasureT-loop2
-μ-loop2 rows whole left first i₀ i = first + 3 - i
+μ-loop2 rows left first i₀ i = first + 3 - i
 
 abbrev Inv-loop : tie.InvT-loop
-Inv-loop rows whole left₀ left = left ≤ whole
+Inv-loop rows left₀ left = left ≤ tokenRoom rows
 
 abbrev μ-loop : tie.MeasureT-loop
-μ-loop rows whole left₀ left = left
+μ-loop rows left₀ left = left
+
+
+room-requires : tie.Need-room-requires Inv-loop2 μ-loop2 Inv-loop μ-loop
+room-requires c κs = search needs
 
 loop-holds : tie.Need-loop-holds Inv-loop2 μ-loop2 Inv-loop μ-loop
 loop-holds c = search needs
@@ -74,6 +78,7 @@ changed-rows-spec =
     μ-loop2
     Inv-loop
     μ-loop
+    room-requires
     loop-holds
     sub-first
     mul-first
