@@ -18,7 +18,6 @@ Inv-loop rows left₀ left = left ≤ tokenRoom rows
 abbrev μ-loop : tie.MeasureT-loop
 μ-loop rows left₀ left = left
 
-
 room-requires : tie.Need-room-requires Inv-loop2 μ-loop2 Inv-loop μ-loop
 room-requires c κs = search needs
 
