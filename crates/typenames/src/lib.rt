@@ -3,7 +3,6 @@ mod list;
 
 pub use list::NAME_LIMIT;
 pub use list::check_names;
-pub use list::is_name;
 
 // Whether a list of names is good, or the refusal's number and place.
 pub enum Checked {
