@@ -1,4 +1,5 @@
--- Every lexeme that takes bytes takes at least one and no more than there are, and a token's kind is one of the kinds.
+-- Every lexeme that takes bytes takes at least one and no more than there are, a token's kind is one of the kinds, and there is
+-- an end only where no byte is left.
 -- Assumes nothing.
 use Prim.Native.Char.{code}
 use Prim.Native.Nat.{ℕ, zero, suc, _+_, _<_, _≤_, zero-le}
@@ -26,7 +27,7 @@ use Rattle.lexer.proofs.Laws.Words.{word-le}
 
 -- a lexeme at the front of some bytes
 pub data Proper (s : List ℕ) : Lexeme → Type 0 where
-  proper-end : Proper s End
+  proper-end : length s ≡ 0 → Proper s End
   proper-skip : {n : ℕ} → 0 < n → n ≤ length s → Proper s (Skipped n)
   proper-token : {k n : ℕ} → 0 < n → n ≤ length s → firstKind ≤ k → k ≤ lastKind → Proper s (Token k n)
   proper-bad : Proper s BadByte
@@ -44,6 +45,9 @@ of-token (proper-token a b c d) = record { some = a; within = b; low = c; high =
 
 pub of-skip : {s : List ℕ} {n : ℕ} → Proper s (Skipped n) → (0 < n) × (n ≤ length s)
 of-skip (proper-skip a b) = (a, b)
+
+pub of-end : {s : List ℕ} → Proper s End → length s ≡ 0
+of-end (proper-end h) = h
 
 -- one of two proper lexemes is proper
 proper-else : {s : List ℕ} (l m : Lexeme) → Proper s l → Proper s m → Proper s (orElse l m)
@@ -265,7 +269,7 @@ module _ (ms : List Spelling) (good : spelled ms ≡ true) where
 -- the lexeme at the front of some bytes is a proper one, for any edition whose marks are spelled
 pub proper : (e : Edition) → spelled (e .marks) ≡ true → (s : List ℕ) → Proper s (lexeme e s)
 unfolding lexeme mark
-proper e good [] = proper-end
+proper e good [] = proper-end refl
 proper e good (b ∷ s) =
     proper-else _ _ (proper-spaces _) (proper-else _ _ (proper-comment _) (proper-else _ _ (proper-word _)
     (proper-else _ _ (proper-number e b s) (proper-else _ _ (proper-text _) (proper-mark-up-to (e .marks) good (longest (e .marks)) _)))))
