@@ -1,5 +1,5 @@
 -- The token table: its rows, what the tokeniser answers and what it leaves in the table.
-use Prim.Native.Nat.{ℕ, _*_, _+_, _/_}
+use Prim.Native.Nat.{ℕ, _*_, _/_}
 use mathlib.Core.List.{List, [], _∷_, _++_}
 use lib.Dec.{ltb, leb}
 use lib.ListN.{length, drop, getD}
@@ -22,7 +22,7 @@ abbrev pub tokenRoom : List ℕ → ℕ
 tokenRoom table = length table / tokenWidth
 
 -- "three u32 per row (kind, start byte, length)"
-unfoldable pub tokenRow : Token → List ℕ
+abbrev pub tokenRow : Token → List ℕ
 tokenRow t = t .kind ∷ t .start ∷ t .length ∷ []
 
 unfoldable pub tokenRows : List Token → List ℕ
@@ -65,15 +65,25 @@ afterAnswer (Refused number place) ts table = table
 unfoldable pub tableAfter : Edition → List ℕ → List ℕ → List ℕ
 tableAfter e s table = afterAnswer (tokenized e s table) (tokensOf (scan e s)) table
 
--- a token's kind, start and length in a table, 0 past its whole rows
-unfoldable pub entryAt : ℕ → List ℕ → ℕ → ℕ
-entryAt column table row = pick (ltb row (tokenRoom table)) (getD table (row * tokenWidth + column) 0) 0
+-- the whole rows of a table, each as the token that it says
+unfoldable pub rowsOf : List ℕ → List Token
+rowsOf [] = []
+rowsOf (k ∷ []) = []
+rowsOf (k ∷ s ∷ []) = []
+rowsOf (k ∷ s ∷ n ∷ table) = record { kind = k; start = s; length = n } ∷ rowsOf table
+
+abbrev pub noToken : Token
+noToken = record { kind = 0; start = 0; length = 0 }
+
+-- what a row says, all 0 past the whole rows
+unfoldable pub rowAt : List ℕ → ℕ → Token
+rowAt table row = getD (rowsOf table) row noToken
 
 abbrev pub kindAt : List ℕ → ℕ → ℕ
-kindAt = entryAt 0
+kindAt table row = rowAt table row .kind
 
 abbrev pub startAt : List ℕ → ℕ → ℕ
-startAt = entryAt 1
+startAt table row = rowAt table row .start
 
 abbrev pub lengthAt : List ℕ → ℕ → ℕ
-lengthAt = entryAt 2
+lengthAt table row = rowAt table row .length

@@ -2,9 +2,9 @@
 ghost use mathlib.Core.Path.{_≡_};
 ghost use Prim.Native.Nat.{_+_, _*_, _≤_, _<_};
 ghost use mathlib.Core.List.{[], _∷_};
-ghost use lib.ListN.{length};
+ghost use lib.ListN.{length, getD};
 ghost use lib.Seq.{sets};
-ghost use Rattle.lexer.specs.Table.{tokenWidth, tokenRoom, entryAt, kindAt, startAt, lengthAt};
+ghost use Rattle.lexer.specs.Table.{tokenWidth, tokenRoom, tokenRow, rowAt, kindAt, startAt, lengthAt};
 
 // The numbers in a row: a token's kind, start and length.
 pub const WIDTH: usize = 3;
@@ -16,9 +16,10 @@ pub fn room(table: &[u32]) -> usize
     table.len() / WIDTH
 }
 
+// The number in a column of a row, 0 past the whole rows.
 fn entry_at(table: &[u32], row: usize, column: usize) -> u32
     requires { ⌜ column < tokenWidth ⌝ }
-    ensures { λ r. ⌜ r ≡ entryAt column (now (table .entry)) row ⌝ }
+    ensures { λ r. ⌜ r ≡ getD (tokenRow (rowAt (now (table .entry)) row)) column 0 ⌝ }
 {
     if row < table.len() / WIDTH {
         return table[row * WIDTH + column];

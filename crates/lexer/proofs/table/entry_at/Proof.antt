@@ -1,6 +1,6 @@
--- `lexer::table::entry_at` meets its contract. Assumes nothing.
-use borrow.Author.Tests.{lt-ltb, le-ltb}
-use Rattle.lexer.specs.Table.{entryAt}
+-- `lexer::table::entry_at` meets its contract: the number at that place of the table is the row's. Assumes nothing.
+use mathlib.Core.Path.{sym}
+use Rattle.lexer.proofs.Laws.Rows.{row-number, no-row}
 use borrow.Author.Needs.{needs}
 use Rattle.lexer.proofs.table.entry_at.Statement.{statement}
 use Rattle.lexer.proofs.table.entry_at.Tie as tie
@@ -18,14 +18,17 @@ shared-slice-read-result : tie.Need-shared-slice-read-result
 shared-slice-read-result c = search needs
 
 returns : tie.Need-returns
-unfolding entryAt
 returns c =
+    let args = c .before .before .args in
+    let pre = c .before .before .pre in
     let if1 = c .before .if1 in
-    rw (lt-ltb _ _ (if1 .taken))
+    row-number (args .table .now) (args .row) (args .column) pre (if1 .taken)
 
 returns-2 : tie.Need-returns-2
-unfolding entryAt
-returns-2 c = rw (le-ltb _ _ (c .if1 .left))
+returns-2 c =
+    let args = c .before .args in
+    let pre = c .before .pre in
+    sym (no-row (args .table .now) (args .row) (args .column) pre (c .if1 .left))
 
 pub entry-at-spec : {M : Type 1} → statement M
 entry-at-spec =
