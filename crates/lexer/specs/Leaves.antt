@@ -5,8 +5,8 @@ use lib.Dec.{eqb}
 use Rattle.lexer.specs.Tests.{pick}
 use Rattle.lexer.specs.Bytes.{isDigit, isLetter, isSpace}
 
--- the class of a byte by what a lexeme that begins with it is: a number, a word, spaces, or one of three bytes that
--- begin more than one thing, `-`, `/` and the backtick; 6 for every other byte
+-- the class of a byte by what a lexeme that begins with it is: 0 a number, 1 a word, 2 spaces, 3 a number or a mark, 4 a
+-- comment or a mark, 5 a string, 6 a mark or nothing
 unfoldable pub classOf : ℕ → ℕ
 classOf b =
     pick (isDigit b) 0

@@ -5,13 +5,13 @@ ghost use mathlib.Core.Path.{_≡_};
 ghost use Prim.Native.Nat.{_+_};
 ghost use mathlib.Core.List.{[], _∷_};
 ghost use lib.ListN.{drop};
-ghost use Rattle.lexer.specs.Bytes.{member, run};
+ghost use Rattle.lexer.specs.Bytes.{member, beginsEither, run};
 ghost use Rattle.lexer.specs.Spellings.{kindOf};
 ghost use Rattle.lexer.specs.Editions.{edition17};
 ghost use Rattle.lexer.specs.Words.{wordKind};
 ghost use Rattle.lexer.specs.Leaves.{classOf};
 
-// The classes of bytes that `class_of` answers; every other byte is of class 6.
+// The classes that `class_of` answers, by what the byte begins; every other byte is of class 6.
 pub(crate) const DIGIT: u8 = 0;
 
 pub(crate) const LETTER: u8 = 1;
@@ -54,6 +54,19 @@ fn belongs(class: Class, b: u8) -> bool
         Class::Line => b != 10,
         Class::Text => b != 96,
     }
+}
+
+// Whether one of two bytes stands at `at`.
+pub(crate) fn begins_either(source: &[u8], at: usize, a: u8, b: u8) -> bool
+    ensures { λ r. ⌜ r ≡ beginsEither a b (drop at (now (source .entry))) ⌝ }
+{
+    if at < source.len() {
+        if source[at] == a {
+            return true;
+        }
+        return source[at] == b;
+    }
+    false
 }
 
 // Where the bytes of a class that stand at `at` end.

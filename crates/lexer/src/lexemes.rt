@@ -40,7 +40,7 @@ fn slash_at(source: &[u8], at: usize) -> Lexeme
     requires { ⌜ (at < length (now source)) × (getD (now source) at 0 ≡ 0x2F) ⌝ }
     ensures { λ r. ⌜ r ≡ orElse (comment (drop at (now (source .entry)))) (mark edition17 (drop at (now (source .entry)))) ⌝ }
 {
-    if numbers::begins_with(source, at + 1, b'/', b'/') {
+    if bytes::begins_either(source, at + 1, b'/', b'/') {
         let end = bytes::run_end(source, at + 2, Class::Line);
         return Lexeme::Skipped(end - at);
     }

@@ -6,28 +6,14 @@ use crate::kinds;
 ghost use mathlib.Core.Path.{_≡_};
 ghost use Prim.Native.Nat.{_+_};
 ghost use lib.ListN.{drop};
-ghost use Rattle.lexer.specs.Bytes.{beginsEither};
 ghost use Rattle.lexer.specs.Numbers.{fraction, sign, exponent};
 ghost use Rattle.lexer.specs.Lexemes.{unsignedNumber};
-
-// Whether one of two bytes stands at `at`.
-pub fn begins_with(source: &[u8], at: usize, a: u8, b: u8) -> bool
-    ensures { λ r. ⌜ r ≡ beginsEither a b (drop at (now (source .entry))) ⌝ }
-{
-    if at < source.len() {
-        if source[at] == a {
-            return true;
-        }
-        return source[at] == b;
-    }
-    false
-}
 
 // Where the point and digits at `at` end, or `at` where not all of that is there.
 fn fraction_end(source: &[u8], at: usize) -> usize
     ensures { λ r. ⌜ r ≡ at + fraction (drop at (now (source .entry))) ⌝ }
 {
-    if begins_with(source, at, b'.', b'.') {
+    if bytes::begins_either(source, at, b'.', b'.') {
         let from = at + 1;
         let end = bytes::run_end(source, from, Class::Digit);
         if from < end {
@@ -41,7 +27,7 @@ fn fraction_end(source: &[u8], at: usize) -> usize
 fn sign_end(source: &[u8], at: usize) -> usize
     ensures { λ r. ⌜ r ≡ at + sign (drop at (now (source .entry))) ⌝ }
 {
-    if begins_with(source, at, b'+', b'-') {
+    if bytes::begins_either(source, at, b'+', b'-') {
         return at + 1;
     }
     at
@@ -51,7 +37,7 @@ fn sign_end(source: &[u8], at: usize) -> usize
 fn exponent_end(source: &[u8], at: usize) -> usize
     ensures { λ r. ⌜ r ≡ at + exponent (drop at (now (source .entry))) ⌝ }
 {
-    if begins_with(source, at, b'e', b'E') {
+    if bytes::begins_either(source, at, b'e', b'E') {
         let from = sign_end(source, at + 1);
         let end = bytes::run_end(source, from, Class::Digit);
         if from < end {

@@ -15,7 +15,6 @@ use Rattle.lexer.specs.Kinds.{ident, string, minus, slash}
 use Rattle.lexer.specs.Bytes.{isSpace, isDigit, isLetter, isInLine, isInString, run, beginsEither}
 use Rattle.lexer.specs.Spellings.{same, kindOf, longest, commonMarks, shiftMarks}
 use Rattle.lexer.specs.Editions.{Edition, edition17}
-use Rattle.lexer.specs.Words.{joins}
 use Rattle.lexer.specs.Lexemes.{skippedSpaces, spaces, comment, wordOf, word, numberOf, unsignedNumber, withMinus, number, text}
 use Rattle.lexer.specs.Lexemes.{markOf, markUpTo, mark, orElse, lexeme}
 use Rattle.lexer.specs.Leaves.{classOf}
@@ -33,15 +32,15 @@ unfolding skippedSpaces orElse
 spaces-first zero other h = absurd (omega arith)
 spaces-first (suc n) other h = refl
 
+-- .. nor where one of two fits, whichever a test picks
+pick-first : (q : Bool) (l m other : Lexeme) → orElse l other ≡ l → orElse m other ≡ m → orElse (pick q l m) other ≡ pick q l m
+pick-first true l m other p r = p
+pick-first false l m other p r = r
+
 word-first : (n k : ℕ) (t : List ℕ) (other : Lexeme) → 0 < n → orElse (wordOf n k t) other ≡ wordOf n k t
 unfolding wordOf orElse
 word-first zero k t other h = absurd (omega arith)
-word-first (suc n) k t other h = either (eqb k ident)
-  where
-    either : (q : Bool) → orElse (pick q (Token k (suc n + joins (drop (suc n) t))) (Token k (suc n))) other
-        ≡ pick q (Token k (suc n + joins (drop (suc n) t))) (Token k (suc n))
-    either true = refl
-    either false = refl
+word-first (suc n) k t other h = pick-first (eqb k ident) _ _ other refl refl
 
 number-first : (n f : ℕ) (t : List ℕ) (other : Lexeme) → 0 < n → orElse (numberOf n f t) other ≡ numberOf n f t
 unfolding numberOf orElse
@@ -189,12 +188,8 @@ module _ (s : List ℕ) (at : ℕ) (inside : at < length s) where
 
     pub string-first : (other : Lexeme) → orElse (text (drop at s)) other ≡ text (drop at s)
     unfolding text beginsEither or orElse
-    string-first other = rw opened (either (ltb (1 + run isInString (drop (at + 1) s)) (length (code "`" ∷ drop (at + 1) s))))
-      where
-        either : (q : Bool) → orElse (pick q (Token string (2 + run isInString (drop (at + 1) s))) OpenString) other
-            ≡ pick q (Token string (2 + run isInString (drop (at + 1) s))) OpenString
-        either true = refl
-        either false = refl
+    string-first other =
+        rw opened (pick-first (ltb (1 + run isInString (drop (at + 1) s)) (suc (length (drop (at + 1) s)))) _ _ other refl refl)
 
   module _ (here : getD s at 0 ≡ code "/") where
     slashed : drop at s ≡ code "/" ∷ drop (at + 1) s

@@ -8,9 +8,9 @@ use mathlib.Core.List.{List, [], _∷_}
 use mathlib.Core.Logic.{_≢_}
 use native.Mathlib.Nat.{le-refl, le-trans}
 use native.Mathlib.Omega.{arith}
-use lib.Dec.{eqb, ltb, leb}
+use lib.Dec.{eqb, ltb}
 use lib.ListN.{length, take, drop}
-use borrow.Author.Tests.{eqb-true, ne-eqb, leb-true, ltb-true, ltb-false}
+use borrow.Author.Tests.{eqb-true, ne-eqb, ltb-true, ltb-false}
 use Rattle.lexer.specs.Tests.{and, or, between, pick}
 use Rattle.lexer.specs.Bytes.{isSpace, isDigit, isLetter, isInLine, beginsEither, begins, run}
 use Rattle.lexer.specs.Spellings.{Spelling, same, kindOf, longest, commonMarks, shiftMarks}
@@ -22,7 +22,7 @@ use Rattle.lexer.specs.Tokens.{size}
 use Rattle.lexer.specs.declared.Lexeme.{Lexeme}
 use Rattle.lexer.specs.declared.Lexeme.the-variants.{End, Skipped, Token, BadByte, OpenString}
 use Rattle.lexer.proofs.Laws.Lexemes.{no-spaces, no-comment, no-word, no-digits, no-text}
-use Rattle.lexer.proofs.Laws.Tests.{and-false, and-left, and-right}
+use Rattle.lexer.proofs.Laws.Tests.{and-false, and-right, and-left, or-else, or-left, or-right, between-range}
 use Rattle.lexer.proofs.Laws.Sizes.{Proper, of-token, proper-unsigned}
 
 -- a byte that spaces, a word, a number or a string begins with
@@ -98,29 +98,6 @@ never-both l (Skipped n) h = record { ahead = λ f. absurd (h f refl) }
 never-both l (Token k n) h = record { ahead = λ f. absurd (h f refl) }
 never-both l BadByte h = record { ahead = λ f. zero-le }
 never-both l OpenString h = record { ahead = λ f. zero-le }
-
--- tests
-or-else : {P : Type 0} (a b : Bool) → (a ≡ true → P) → (b ≡ true → P) → or a b ≡ true → P
-unfolding or
-or-else true b f g h = f refl
-or-else false b f g h = g h
-
-or-left : (a b : Bool) → a ≡ true → or a b ≡ true
-unfolding or
-or-left true b h = refl
-or-left false b h = let z : _≡_ {A = ℕ} 0 1 = cc in absurd (omega arith)
-
-or-right : (a b : Bool) → b ≡ true → or a b ≡ true
-unfolding or
-or-right true b h = refl
-or-right false b h = h
-
-between-range : (low high n : ℕ) → between low high n ≡ true → (low ≤ n) × (n ≤ high)
-unfolding between
-between-range low high n h =
-    let above = leb low n in
-    let below = leb n high in
-    (leb-true low n (and-left above below h), leb-true n high (and-right above below h))
 
 -- what a first byte tells
 module _ (b : ℕ) where

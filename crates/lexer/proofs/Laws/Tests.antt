@@ -1,11 +1,11 @@
 -- Laws of the tests and choices that the lexical rules are written with. Assumes nothing.
-use Prim.Native.Nat.{ℕ}
+use Prim.Native.Nat.{ℕ, _≤_}
 use mathlib.Core.Path.{_≡_, refl, _∙_, sym}
 use mathlib.Core.Bool.{Bool, true, false}
 use native.Mathlib.Omega.{arith}
-use lib.Dec.{eqb}
-use borrow.Author.Tests.{eqb-true, ne-eqb}
-use Rattle.lexer.specs.Tests.{and, pick}
+use lib.Dec.{eqb, leb}
+use borrow.Author.Tests.{eqb-true, ne-eqb, leb-true}
+use Rattle.lexer.specs.Tests.{and, or, between, pick}
 
 pub and-false : (t : Bool) → and t false ≡ false
 unfolding and
@@ -21,6 +21,28 @@ pub and-right : (a b : Bool) → and a b ≡ true → b ≡ true
 unfolding and
 and-right true b h = h
 and-right false b h = let z : _≡_ {A = ℕ} 0 1 = cc in absurd (omega arith)
+
+pub or-else : {P : Type 0} (a b : Bool) → (a ≡ true → P) → (b ≡ true → P) → or a b ≡ true → P
+unfolding or
+or-else true b f g h = f refl
+or-else false b f g h = g h
+
+pub or-left : (a b : Bool) → a ≡ true → or a b ≡ true
+unfolding or
+or-left true b h = refl
+or-left false b h = let z : _≡_ {A = ℕ} 0 1 = cc in absurd (omega arith)
+
+pub or-right : (a b : Bool) → b ≡ true → or a b ≡ true
+unfolding or
+or-right true b h = refl
+or-right false b h = h
+
+pub between-range : (low high n : ℕ) → between low high n ≡ true → (low ≤ n) × (n ≤ high)
+unfolding between
+between-range low high n h =
+    let above = leb low n in
+    let below = leb n high in
+    (leb-true low n (and-left above below h), leb-true n high (and-right above below h))
 
 -- the same, whatever a test says
 pub pick-same {ℓ} : {A : Type ℓ} (t : Bool) (a : A) → pick t a a ≡ a

@@ -10,17 +10,17 @@ use borrow.Author.Needs.{needs}
 use Rattle.lexer.proofs.lexemes.slash_at.Statement.{statement}
 use Rattle.lexer.proofs.lexemes.slash_at.Tie as tie
 
-add-begins-with : tie.Need-add-begins-with
-add-begins-with c = search needs
+add-begins-either : tie.Need-add-begins-either
+add-begins-either c = search needs
 
-begins-with-requires : tie.Need-begins-with-requires
-begins-with-requires c κs = search needs
+begins-either-requires : tie.Need-begins-either-requires
+begins-either-requires c κs = search needs
 
 add-run-end : tie.Need-add-run-end
 add-run-end c =
     let args = c .before .before .before .args in
-    let begins-with = c .before .begins-with in
-    let i = begins-inside (args .source .now) (args .at + 1) 47 47 (sym (begins-with .ensures) ∙ c .if1 .taken) in omega arith
+    let begins-either = c .before .begins-either in
+    let i = begins-inside (args .source .now) (args .at + 1) 47 47 (sym (begins-either .ensures) ∙ c .if1 .taken) in omega arith
 
 run-end-requires : tie.Need-run-end-requires
 run-end-requires c κs = search needs
@@ -33,9 +33,9 @@ unfolding orElse
 returns c =
     let args = c .before .before .before .before .args in
     let pre = c .before .before .before .before .pre in
-    let begins-with = c .before .before .begins-with in
+    let begins-either = c .before .before .begins-either in
     let if1 = c .before .if1 in
-    rw (comment-found (args .source .now) (args .at) (pre .0) (pre .1) (sym (begins-with .ensures) ∙ if1 .taken))
+    rw (comment-found (args .source .now) (args .at) (pre .0) (pre .1) (sym (begins-either .ensures) ∙ if1 .taken))
     (ap (λ (n : ℕ). Lexeme.Skipped n) (let e = c .run-end .ensures in omega arith))
 
 returns-2 : tie.Need-returns-2
@@ -43,16 +43,16 @@ unfolding orElse
 returns-2 c =
     let args = c .before .before .before .args in
     let pre = c .before .before .before .pre in
-    let begins-with = c .before .begins-with in
-    rw (comment-lost (args .source .now) (args .at) (pre .0) (pre .1) (sym (begins-with .ensures) ∙ c .if1 .left))
+    let begins-either = c .before .begins-either in
+    rw (comment-lost (args .source .now) (args .at) (pre .0) (pre .1) (sym (begins-either .ensures) ∙ c .if1 .left))
     (sym (slash-mark (args .source .now) (args .at) (pre .0) (pre .1)))
 
 pub slash-at-spec : {M : Type 1} → statement M
 slash-at-spec =
     tie.close
     (tie.spec
-    add-begins-with
-    begins-with-requires
+    add-begins-either
+    begins-either-requires
     add-run-end
     run-end-requires
     sub-t6

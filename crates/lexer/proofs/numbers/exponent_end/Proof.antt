@@ -7,14 +7,14 @@ use borrow.Author.Needs.{needs}
 use Rattle.lexer.proofs.numbers.exponent_end.Statement.{statement}
 use Rattle.lexer.proofs.numbers.exponent_end.Tie as tie
 
-begins-with-requires : tie.Need-begins-with-requires
-begins-with-requires c κs = search needs
+begins-either-requires : tie.Need-begins-either-requires
+begins-either-requires c κs = search needs
 
 add-sign-end : tie.Need-add-sign-end
 add-sign-end c =
     let args = c .before .before .before .args in
-    let begins-with = c .before .begins-with in
-    let i = begins-inside (args .source .now) (args .at) 101 69 (sym (begins-with .ensures) ∙ c .if1 .taken) in omega arith
+    let begins-either = c .before .begins-either in
+    let i = begins-inside (args .source .now) (args .at) 101 69 (sym (begins-either .ensures) ∙ c .if1 .taken) in omega arith
 
 sign-end-requires : tie.Need-sign-end-requires
 sign-end-requires c κs = search needs
@@ -27,12 +27,12 @@ returns c =
     let args = c .before .before .before .before .before .before .args in
     let sign-end = c .before .before .sign-end in
     let run-end = c .before .run-end in
-    let begins-with = c .before .before .before .before .begins-with in
+    let begins-either = c .before .before .before .before .begins-either in
     let if1 = c .before .before .before .if1 in
     let a = args in
     let e = rw (sign-end .ensures) at (run-end .ensures) in
     let t = rw (sign-end .ensures) at (c .if2 .taken) in
-    e ∙ sym (exponent-found (a .source .now) (a .at) (sym (begins-with .ensures) ∙ if1 .taken) (omega arith))
+    e ∙ sym (exponent-found (a .source .now) (a .at) (sym (begins-either .ensures) ∙ if1 .taken) (omega arith))
 
 returns-2 : tie.Need-returns-2
 returns-2 c =
@@ -47,14 +47,14 @@ returns-2 c =
 returns-3 : tie.Need-returns-3
 returns-3 c =
     let args = c .before .before .before .args in
-    let begins-with = c .before .begins-with in
-    rw (exponent-none (args .source .now) (args .at) (sym (begins-with .ensures) ∙ c .if1 .left)) (sym (add-zero _))
+    let begins-either = c .before .begins-either in
+    rw (exponent-none (args .source .now) (args .at) (sym (begins-either .ensures) ∙ c .if1 .left)) (sym (add-zero _))
 
 pub exponent-end-spec : {M : Type 1} → statement M
 exponent-end-spec =
     tie.close
     (tie.spec
-    begins-with-requires
+    begins-either-requires
     add-sign-end
     sign-end-requires
     run-end-requires

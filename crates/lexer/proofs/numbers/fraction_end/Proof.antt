@@ -7,14 +7,14 @@ use borrow.Author.Needs.{needs}
 use Rattle.lexer.proofs.numbers.fraction_end.Statement.{statement}
 use Rattle.lexer.proofs.numbers.fraction_end.Tie as tie
 
-begins-with-requires : tie.Need-begins-with-requires
-begins-with-requires c κs = search needs
+begins-either-requires : tie.Need-begins-either-requires
+begins-either-requires c κs = search needs
 
 add-from : tie.Need-add-from
 add-from c =
     let args = c .before .before .before .args in
-    let begins-with = c .before .begins-with in
-    let i = begins-inside (args .source .now) (args .at) 46 46 (sym (begins-with .ensures) ∙ c .if1 .taken) in omega arith
+    let begins-either = c .before .begins-either in
+    let i = begins-inside (args .source .now) (args .at) 46 46 (sym (begins-either .ensures) ∙ c .if1 .taken) in omega arith
 
 run-end-requires : tie.Need-run-end-requires
 run-end-requires c κs = search needs
@@ -23,12 +23,12 @@ returns : tie.Need-returns
 returns c =
     let args = c .before .before .before .before .before .args in
     let run-end = c .before .run-end in
-    let begins-with = c .before .before .before .begins-with in
+    let begins-either = c .before .before .before .begins-either in
     let if1 = c .before .before .if1 in
     let a = args in
     let e = run-end .ensures in
     let t = c .if2 .taken in
-    e ∙ sym (fraction-found (a .source .now) (a .at) (sym (begins-with .ensures) ∙ if1 .taken) (omega arith))
+    e ∙ sym (fraction-found (a .source .now) (a .at) (sym (begins-either .ensures) ∙ if1 .taken) (omega arith))
 
 returns-2 : tie.Need-returns-2
 returns-2 c =
@@ -42,9 +42,9 @@ returns-2 c =
 returns-3 : tie.Need-returns-3
 returns-3 c =
     let args = c .before .before .before .args in
-    let begins-with = c .before .begins-with in
-    rw (fraction-none (args .source .now) (args .at) (sym (begins-with .ensures) ∙ c .if1 .left)) (sym (add-zero _))
+    let begins-either = c .before .begins-either in
+    rw (fraction-none (args .source .now) (args .at) (sym (begins-either .ensures) ∙ c .if1 .left)) (sym (add-zero _))
 
 pub fraction-end-spec : {M : Type 1} → statement M
 fraction-end-spec =
-    tie.close (tie.spec begins-with-requires add-from run-end-requires returns returns-2 returns-3)
+    tie.close (tie.spec begins-either-requires add-from run-end-requires returns returns-2 returns-3)

@@ -1,12 +1,12 @@
--- `lexer::numbers::begins_with` meets its contract: the byte there, if there is one, is compared with both.
+-- `lexer::bytes::begins_either` meets its contract: the byte there, if there is one, is compared with both.
 -- Assumes nothing.
 use Rattle.lexer.proofs.Laws.Fronts.{front-none, front-one}
 use borrow.Author.Tests.{eq-eqb, ne-eqb}
 use Rattle.lexer.specs.Tests.{or}
 use Rattle.lexer.specs.Bytes.{beginsEither}
 use borrow.Author.Needs.{needs}
-use Rattle.lexer.proofs.numbers.begins_with.Statement.{statement}
-use Rattle.lexer.proofs.numbers.begins_with.Tie as tie
+use Rattle.lexer.proofs.bytes.begins_either.Statement.{statement}
+use Rattle.lexer.proofs.bytes.begins_either.Tie as tie
 
 shared-slice-read-if2 : tie.Need-shared-slice-read-if2
 shared-slice-read-if2 c = search needs
@@ -35,6 +35,6 @@ returns-3 c =
     let args = c .before .args in
     rw (front-none (args .source .now) (args .at) (c .if1 .left))
 
-pub begins-with-spec : {M : Type 1} → statement M
-begins-with-spec =
+pub begins-either-spec : {M : Type 1} → statement M
+begins-either-spec =
     tie.close (tie.spec shared-slice-read-if2 returns shared-slice-read-result returns-2 returns-3)
