@@ -8,7 +8,7 @@ use lib.ListN.{drop, length-drop}
 use Rattle.lexer.proofs.Laws.Sizes.{of-token, proper-unsigned}
 use denote.Enum.Declared.{tagOf}
 use types.Run.{OneOf, miss}
-use Rattle.lexer.specs.Lexemes.{withMinus, orElse}
+use Rattle.lexer.specs.Lexemes.{unsignedNumber, withMinus, orElse}
 use Rattle.lexer.specs.declared.Lexeme.{Lexeme}
 use Rattle.lexer.proofs.Lexeme.{the-type}
 use Rattle.lexer.specs.declared.Lexeme.the-variants.{End, Skipped, Token, BadByte, OpenString}
@@ -27,6 +27,11 @@ no-minus (Token k n) h = absurd (miss (0 ∷ 1 ∷ 3 ∷ 4 ∷ []) 2 tt h)
 no-minus BadByte h = refl
 no-minus OpenString h = refl
 
+-- the number that is read stands after the minus
+read : (c : tie.After-unsigned-at) → let args = c .before .before .args in
+    c .unsigned-at .result ≡ unsignedNumber (drop (args .at + 1) (args .source .now))
+read c = c .unsigned-at .ensures
+
 add-unsigned-at : tie.Need-add-unsigned-at
 add-unsigned-at c = search needs
 
@@ -38,11 +43,12 @@ enum-known-unsigned c = search needs
 
 add-t8 : tie.Need-add-t8
 add-t8 c =
-    let unsigned-at = c .before .before .before .unsigned-at in
+    let at-unsigned-at = c .before .before .before in
     let unsigned = c .before .unsigned in
     let args = c .before .before .before .before .before .args in
     let pre = c .before .before .before .before .before .pre in
-    let p = of-token (rw (sym (unsigned-at .ensures) ∙ unsigned .given .1) at (proper-unsigned (drop (args .at + 1) (args .source .now)))) in
+    let found = sym (read (at-unsigned-at)) ∙ unsigned .given .1 in
+    let p = of-token (rw found at (proper-unsigned (drop (args .at + 1) (args .source .now)))) in
     let l = length-drop (args .at + 1) (args .source .now) in
     let h = pre .0 in
     let w = p .within in
@@ -53,19 +59,19 @@ unfolding orElse withMinus
 returns c =
     let args = c .before .before .before .before .before .args in
     let pre = c .before .before .before .before .before .pre in
-    let unsigned-at = c .before .before .before .unsigned-at in
+    let at-unsigned-at = c .before .before .before in
     let unsigned = c .before .unsigned in
     let s = args .source .now in
-    rw (minus-number s (args .at) (pre .0) (pre .1), ← unsigned-at .ensures, unsigned .given .1, add-one)
+    rw (minus-number s (args .at) (pre .0) (pre .1), ← read (at-unsigned-at), unsigned .given .1, add-one)
 
 returns-2 : tie.Need-returns-2
 unfolding orElse
 returns-2 c =
     let args = c .before .before .before .args in
     let pre = c .before .before .before .pre in
-    let unsigned-at = c .before .unsigned-at in
+    let at-unsigned-at = c .before in
     let s = args .source .now in
-    rw (minus-number s (args .at) (pre .0) (pre .1), ← unsigned-at .ensures, no-minus _ (c .match .keys2))
+    rw (minus-number s (args .at) (pre .0) (pre .1), ← read (at-unsigned-at), no-minus _ (c .match .keys2))
     (sym (minus-mark s (args .at) (pre .0) (pre .1)))
 
 pub minus-at-spec : {M : Type 1} → statement M
