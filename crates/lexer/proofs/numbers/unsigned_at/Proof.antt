@@ -1,6 +1,6 @@
 -- `lexer::numbers::unsigned_at` meets its contract: digits, then a fraction, then an exponent. Assumes nothing.
-use mathlib.Core.Path.{_∙_, sym, ap}
-use Prim.Native.Nat.{ℕ}
+use mathlib.Core.Path.{_≡_, _∙_, sym, ap}
+use Prim.Native.Nat.{ℕ, _+_, _-_}
 use Rattle.lexer.specs.Kinds.{int, float}
 use Rattle.lexer.specs.declared.Lexeme.{Lexeme}
 use Rattle.lexer.proofs.Laws.Numbers.{no-number, whole-number, float-number}
@@ -8,6 +8,13 @@ use native.Mathlib.Omega.{arith}
 use borrow.Author.Needs.{needs}
 use Rattle.lexer.proofs.numbers.unsigned_at.Statement.{statement}
 use Rattle.lexer.proofs.numbers.unsigned_at.Tie as tie
+
+-- the length of what ends so many bytes after its start
+spans : (at len last : ℕ) → last ≡ at + len → last - at ≡ len
+spans at len last e = omega arith
+
+regroup : (at n f x : ℕ) → at + n + f + x ≡ at + (n + f + x)
+regroup at n f x = omega arith
 
 run-end-requires : tie.Need-run-end-requires
 run-end-requires c κs = search needs
@@ -36,7 +43,8 @@ returns-2 c =
     let f = rw e at (fraction-end .ensures) in
     let t = rw e at (c .if2 .taken) in
     let n = if1 .left in
-    ap (λ (m : ℕ). Lexeme.Token int m) (omega arith) ∙ sym (whole-number (args .source .now) (args .at) (omega arith) (omega arith))
+    ap (λ (m : ℕ). Lexeme.Token int m) (spans (args .at) _ _ e)
+    ∙ sym (whole-number (args .source .now) (args .at) (omega arith) (omega arith))
 
 exponent-end-requires : tie.Need-exponent-end-requires
 exponent-end-requires c κs = search needs
@@ -59,7 +67,8 @@ returns-3 c =
     let g = rw f at (c .exponent-end .ensures) in
     let t = rw e at (if2 .left) in
     let n = if1 .left in
-    ap (λ (m : ℕ). Lexeme.Token float m) (omega arith) ∙ sym (float-number (args .source .now) (args .at) (omega arith) (omega arith))
+    ap (λ (m : ℕ). Lexeme.Token float m) (spans (args .at) _ _ (g ∙ regroup (args .at) _ _ _))
+    ∙ sym (float-number (args .source .now) (args .at) (omega arith) (omega arith))
 
 pub unsigned-at-spec : {M : Type 1} → statement M
 unsigned-at-spec =
