@@ -1,2 +1,3 @@
--- The list of extra type names.
+-- The list of extra type names, and the type names of a source.
 pub mod NameList
+pub mod TypeNames

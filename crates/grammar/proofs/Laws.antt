@@ -1,0 +1,13 @@
+-- Laws of grammars and of their readings.
+pub mod Checks
+pub mod Tests
+pub mod Choices
+pub mod Follow
+pub mod Complete
+pub mod Outcomes
+pub mod Sound
+pub mod Grows
+pub mod Fuel
+pub mod Takes
+pub mod Forests
+pub mod Readings

@@ -1,0 +1,144 @@
+-- The computed tests of a table, which the theorems about readings ask of it, and the hints that they are given: what may
+-- follow a nonterminal, which nonterminals may be empty, how much fuel one needs before a token is taken, how many rows it makes.
+-- Assumes nothing; a wrong hint only fails a test.
+use Prim.Native.Nat.{ℕ, zero, suc, _+_, _*_, max}
+use mathlib.Core.Bool.{Bool, true, false}
+use mathlib.Core.List.{List, [], _∷_}
+use lib.Dec.{eqb, leb}
+use Rattle.lexer.specs.Tests.{and, or, pick}
+use Rattle.grammar.specs.Grammars.{endOfTokens, among, Condition, next, query, Symbol, token, part, condition, Production, agrees}
+use Rattle.grammar.specs.Rows.{levels}
+use Rattle.grammar.specs.Reading.{breadth, whole}
+use Rattle.grammar.specs.First.{skips, starts, empty, first, canBegin, canSkip}
+
+pub record Hints : Type 0 where
+  -- whether a token of a class may follow a nonterminal
+  pub follow : ℕ → ℕ → Bool
+  -- whether a nonterminal may derive no token
+  pub nullable : ℕ → Bool
+  -- the fuel that a nonterminal needs before a token is taken
+  pub weight : ℕ → ℕ
+  -- a nonterminal has at most twice as many rows as tokens, and so many less, or more
+  pub fewer : ℕ → ℕ
+  pub more : ℕ → ℕ
+
+unfoldable pub implies : Bool → Bool → Bool
+implies true b = b
+implies false b = true
+
+-- a test of every production
+unfoldable pub every : (Production → Bool) → List Production → Bool
+every test [] = true
+every test (p ∷ ps) = and (test p) (every test ps)
+
+-- what the next class may be where symbols are read and `after` says whether it may follow them
+unfoldable pub may : List Production → ℕ → Bool → List Symbol → Bool
+may g c after ss = or (starts c (first g c) (empty g c) ss) (and (skips c (empty g c) ss) after)
+
+-- FIRST is closed at class c
+unfoldable pub firstClosed : List Production → ℕ → Production → Bool
+firstClosed g c p = implies (canBegin g c p) (first g c (p .left))
+
+unfoldable pub emptyClosed : List Production → ℕ → Production → Bool
+emptyClosed g c p = implies (canSkip g c p) (empty g c (p .left))
+
+-- FOLLOW is closed at class c: what may come after a nonterminal among symbols may follow it
+unfoldable pub flows : List Production → Hints → ℕ → Bool → List Symbol → Bool
+flows g h c after [] = true
+flows g h c after (token cs ∷ ss) = flows g h c after ss
+flows g h c after (part x ∷ ss) = and (implies (may g c after ss) (h .follow x c)) (flows g h c after ss)
+flows g h c after (condition b q ∷ ss) = flows g h c after ss
+
+unfoldable pub followClosed : List Production → Hints → ℕ → Production → Bool
+followClosed g h c p = flows g h c (h .follow (p .left) c) (p .right)
+
+-- a production that a reading may have to take at class c
+unfoldable pub live : List Production → Hints → ℕ → Production → Bool
+live g h c p = or (canBegin g c p) (and (canSkip g c p) (h .follow (p .left) c))
+
+-- whether the conditions at the front ask a question, and the answer that is asked for
+unfoldable pub asks : Bool → ℕ → List Symbol → Bool
+asks b q [] = false
+asks b q (token cs ∷ ss) = false
+asks b q (part x ∷ ss) = false
+asks b q (condition a (next cs) ∷ ss) = asks b q ss
+asks b q (condition a (query r) ∷ ss) = or (and (eqb q r) (agrees b a)) (asks b q ss)
+
+-- opposite answers to one question are asked for at the front
+unfoldable pub opposed : List Symbol → List Symbol → Bool
+opposed [] ts = false
+opposed (token cs ∷ ss) ts = false
+opposed (part x ∷ ss) ts = false
+opposed (condition b (next cs) ∷ ss) ts = opposed ss ts
+opposed (condition b (query q) ∷ ss) ts = or (asks (agrees b false) q ts) (opposed ss ts)
+
+-- the alternatives of each nonterminal exclude each other at class c, by the class or by opposite conditions
+unfoldable pub excludes : List Production → Hints → ℕ → Production → Production → Bool
+excludes g h c p q = implies (and (eqb (p .left) (q .left)) (live g h c q)) (opposed (p .right) (q .right))
+
+unfoldable pub exclusive : List Production → Hints → ℕ → List Production → Bool
+exclusive g h c [] = true
+exclusive g h c (p ∷ ps) = and (implies (live g h c p) (every (excludes g h c p) ps)) (exclusive g h c ps)
+
+-- all tests at one class
+unfoldable pub passesAt : List Production → Hints → ℕ → Bool
+passesAt g h c =
+    and (every (firstClosed g c) g) (and (every (emptyClosed g c) g) (and (every (followClosed g h c) g) (exclusive g h c g)))
+
+unfoldable pub below : (ℕ → Bool) → ℕ → Bool
+below test zero = true
+below test (suc n) = and (test n) (below test n)
+
+-- no production takes the end of the tokens for a token
+unfoldable pub noEnd : List Symbol → Bool
+noEnd [] = true
+noEnd (token cs ∷ ss) = and (agrees false (among cs 0)) (noEnd ss)
+noEnd (part x ∷ ss) = noEnd ss
+noEnd (condition b q ∷ ss) = noEnd ss
+
+-- symbols that may derive no token
+unfoldable pub vanishes : Hints → List Symbol → Bool
+vanishes h [] = true
+vanishes h (token cs ∷ ss) = false
+vanishes h (part x ∷ ss) = and (h .nullable x) (vanishes h ss)
+vanishes h (condition b q ∷ ss) = vanishes h ss
+
+-- the fuel that symbols need before a token is taken
+unfoldable pub needs : Hints → List Symbol → ℕ
+needs h [] = 1
+needs h (token cs ∷ ss) = 1
+needs h (part x ∷ ss) = suc (max (h .weight x) (pick (h .nullable x) (needs h ss) 0))
+needs h (condition b q ∷ ss) = suc (needs h ss)
+
+-- ... and after any of them at most w
+unfoldable pub bounded : Hints → ℕ → List Symbol → Bool
+bounded h w [] = leb 1 w
+bounded h w (s ∷ ss) = and (leb (needs h (s ∷ ss)) w) (bounded h w ss)
+
+-- no left recursion: the fuel falls from a nonterminal to those at its front
+unfoldable pub falls : Hints → ℕ → Production → Bool
+falls h w p =
+    and (noEnd (p .right)) (and (implies (vanishes h (p .right)) (h .nullable (p .left)))
+    (and (leb (needs h (p .right)) (h .weight (p .left))) (bounded h w (p .right))))
+
+-- rows: a token is worth two, a nonterminal what the hints say
+unfoldable pub fewerOf : Hints → List Symbol → ℕ
+fewerOf h [] = 0
+fewerOf h (token cs ∷ ss) = 2 + fewerOf h ss
+fewerOf h (part x ∷ ss) = h .fewer x + fewerOf h ss
+fewerOf h (condition b q ∷ ss) = fewerOf h ss
+
+unfoldable pub moreOf : Hints → List Symbol → ℕ
+moreOf h [] = 0
+moreOf h (token cs ∷ ss) = moreOf h ss
+moreOf h (part x ∷ ss) = h .more x + moreOf h ss
+moreOf h (condition b q ∷ ss) = moreOf h ss
+
+unfoldable pub fewRows : Hints → Production → Bool
+fewRows h p = leb (levels (p .gives) + h .fewer (p .left) + moreOf h (p .right)) (fewerOf h (p .right) + h .more (p .left))
+
+-- All tests of a table whose start is x, where classes are below a bound.
+unfoldable pub passes : List Production → Hints → ℕ → ℕ → Bool
+passes g h bound x =
+    and (below (passesAt g h) bound) (and (h .follow x endOfTokens) (and (every (falls h (suc (breadth g))) g)
+    (and (bounded h (suc (breadth g)) (whole x)) (and (every (fewRows h) g) (leb (h .more x) 1)))))

@@ -1,0 +1,2 @@
+-- What is proved of grammars, of the table of NURL and of the answer.
+pub mod Laws

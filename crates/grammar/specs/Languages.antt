@@ -1,0 +1,42 @@
+-- An edition of the language: its lexical rules and its grammar; and what the grammar asks of the tokens of a source.
+use Prim.Native.Nat.{ℕ}
+use mathlib.Core.List.{List, [], _∷_, _++_}
+use lib.Dec.{eqb}
+use lib.ListN.{drop, getD}
+use Rattle.lexer.specs.Tests.{and, pick}
+use Rattle.lexer.specs.Kinds.{ident, leftBrace, leftBracket}
+use Rattle.lexer.specs.Editions.{Edition, edition17}
+use Rattle.typenames.specs.TypeNames.{Item, isNamed}
+use Rattle.grammar.specs.Grammars.{Production, Names, View}
+use Rattle.grammar.specs.Classes.{typeName}
+use Rattle.grammar.specs.Questions.{Question, answered}
+use Rattle.grammar.specs.Nurl.{productions17, questions17}
+
+pub record Language : Type 0 where
+  pub lexical : Edition
+  pub productions : List Production
+  pub questions : List Question
+  -- the kinds of token that make an IDENT between `:` and them a type name
+  pub opening : List ℕ
+  -- the names that a nonterminal adds to those in force inside it, given the tokens from its first on
+  pub adds : ℕ → List Item → Names
+
+-- grammar 1.7, document 009: no nonterminal adds names
+unfoldable pub language17 : Language
+language17 =
+    record { lexical = edition17; productions = productions17; questions = questions17; opening = leftBrace ∷ leftBracket ∷ []; adds = λ x ts. [] }
+
+abbrev pub noItem : Item
+noItem = record { kind = 0; text = [] }
+
+-- "an IDENT in N is a class of its own"
+unfoldable pub classOf : Names → Item → ℕ
+classOf e t = pick (and (eqb (t .kind) ident) (isNamed e (t .text))) typeName (t .kind)
+
+-- what the grammar asks of some tokens; past the last of them the class is 0
+unfoldable pub view : Language → List Item → View
+view l ts =
+    record {
+      class = λ e i. classOf e (getD ts i noItem);
+      holds = λ q i. answered (l .questions) q (drop i ts);
+      inside = λ x i e. l .adds x (drop i ts) ++ e }

@@ -1,0 +1,13 @@
+-- Grammars as data, their derivations and the leftmost reading; the table of NURL; the answer and the demands.
+pub mod Grammars
+pub mod Rows
+pub mod Derivations
+pub mod Forests
+pub mod First
+pub mod Reading
+pub mod RowKinds
+pub mod Nonterminals
+pub mod Classes
+pub mod Questions
+pub mod Nurl
+pub mod Languages

@@ -1,0 +1,262 @@
+-- The table of NURL, grammar 1.7: the productions of document 009 in its order, under rules 1 to 11 of document 01. Above each
+-- group stands 009's production, and beside each condition the number of 01's rule. A repetition `x*` or an option `x?` of 009
+-- is a nonterminal with two productions; productions that begin alike share a nonterminal which says the row's kind.
+use Prim.Native.Nat.{ℕ}
+use Prim.Native.String.{String}
+use mathlib.Core.List.{List, [], _∷_}
+use Rattle.lexer.specs.Text.{bytes}
+use Rattle.lexer.specs.Kinds.{ident, keyword, boolean, sizeof, int, string, dollar, ampersand, at, percent, colon, bar, equal, semicolon}
+use Rattle.lexer.specs.Kinds.{tilde, leftBrace, rightBrace, leftParen, rightParen, leftBracket, rightBracket, bang, caret, backslash}
+use Rattle.lexer.specs.Kinds.{question, dot, hash, star, questionQuestion, arrow}
+use Rattle.grammar.specs.Grammars.{Condition, next, query, Symbol, token, part, when, unless, Gives, row, rowOf, says, noRow, Production}
+use Rattle.grammar.specs.RowKinds.{programRow, importRow, foreignRow, traitRow, implRow, functionRow, structRow, enumRow}
+use Rattle.grammar.specs.RowKinds.{constantRow, headerRow, parameterRow, variantRow, listRow, blockRow, letRow, setNameRow}
+use Rattle.grammar.specs.RowKinds.{setElementRow, deferRow, whileRow, foreachRow, literalRow, nameRow, binaryRow, notRow}
+use Rattle.grammar.specs.RowKinds.{returnRow, complementRow, tryRow, closureRow, sizeofRow, aggregateRow, sliceRow}
+use Rattle.grammar.specs.RowKinds.{conditionalRow, callRow, memberRow, castRow, matchRow, armRow, payloadRow, baseTypeRow}
+use Rattle.grammar.specs.RowKinds.{pointerRow, optionalRow, sliceTypeRow, resultRow, functionTypeRow, instanceRow, namedTypeRow}
+use Rattle.grammar.specs.Nonterminals.{program, declarations, declaration, alias, interface, interfaceRest, methods, method}
+use Rattle.grammar.specs.Nonterminals.{body, functions, function, definition, mutable, fields, field, fieldName, parameters}
+use Rattle.grammar.specs.Nonterminals.{parameter, variants, variant, payloadTypes, typeParameters, nameList, moreNames, block}
+use Rattle.grammar.specs.Nonterminals.{statements, statement, binding, assignment, tildeStatement, loopOrComplement}
+use Rattle.grammar.specs.Nonterminals.{expressions, expression, literal, tryOrClosure, typeArguments, wordList, moreWords}
+use Rattle.grammar.specs.Nonterminals.{castRest, selector, arms, arm, payloads3, payloads2, payloads1, payload, types, type}
+use Rattle.grammar.specs.Nonterminals.{parenthesized}
+use Rattle.grammar.specs.Classes.{name, declaredWord, word, typeWord, armHead, payloadToken, literals, operators}
+use Rattle.grammar.specs.Questions.{Piece, one, some, spelled, Question}
+
+-- a token of one kind
+abbrev pub mark : ℕ → Symbol
+mark kind = token (kind ∷ [])
+
+abbrev pub rule : ℕ → Gives → List Symbol → Production
+rule left gives right = record { left = left; gives = gives; right = right }
+
+-- conditions on the next token
+-- an IDENT that is not in N
+abbrev pub plainName : Condition
+plainName = next (ident ∷ [])
+
+abbrev pub anyName : Condition
+anyName = next name
+
+abbrev pub aTilde : Condition
+aTilde = next (tilde ∷ [])
+
+abbrev pub aBrace : Condition
+aBrace = next (leftBrace ∷ [])
+
+abbrev pub aStar : Condition
+aStar = next (star ∷ [])
+
+-- questions about the tokens from here on; they ask kinds and never N
+abbrev pub opensNames : ℕ
+opensNames = 1
+
+abbrev pub opensWords : ℕ
+opensWords = 2
+
+abbrev pub opensStruct : ℕ
+opensStruct = 3
+
+abbrev pub twoNames : ℕ
+twoNames = 4
+
+abbrev pub opensClosure : ℕ
+opensClosure = 5
+
+abbrev pub zeroOrOne : ℕ
+zeroOrOne = 6
+
+abbrev pub asking : ℕ → List (List Piece) → Question
+asking number patterns = record { number = number; patterns = patterns }
+
+abbrev pub a : ℕ → Piece
+a kind = one (kind ∷ [])
+
+unfoldable pub questions17 : List Question
+unfolding bytes
+questions17 =
+    -- rule 2: "`[` opens such a list where one is allowed and one or more such words run up to a `]`"
+    asking opensNames ((a leftBracket ∷ some (ident ∷ boolean ∷ []) ∷ a rightBracket ∷ []) ∷ []) ∷
+    asking opensWords ((a leftBracket ∷ some (ident ∷ boolean ∷ keyword ∷ []) ∷ a rightBracket ∷ []) ∷ []) ∷
+    -- after `:`, an IDENT and then `{` or a list make a struct, and anything else a constant
+    asking opensStruct (
+        (a ident ∷ a leftBrace ∷ []) ∷
+        (a ident ∷ a leftBracket ∷ some (ident ∷ boolean ∷ []) ∷ a rightBracket ∷ []) ∷ []) ∷
+    -- rule 6: "two IDENTs make a foreach"
+    asking twoNames ((a ident ∷ a ident ∷ []) ∷ []) ∷
+    -- rule 7: "before `→`; or a keyword, `*`, `?`, `[` or `!`; or `(` `@`; or IDENT IDENT `→`"
+    asking opensClosure (
+        (a arrow ∷ []) ∷
+        (one (keyword ∷ star ∷ question ∷ leftBracket ∷ bang ∷ []) ∷ []) ∷
+        (a leftParen ∷ a at ∷ []) ∷
+        (a ident ∷ a ident ∷ a arrow ∷ []) ∷ []) ∷
+    -- rule 8: "a directly following INT whose text is `0` or `1`"
+    asking zeroOrOne ((spelled int (bytes "0" ∷ bytes "1" ∷ []) ∷ []) ∷ []) ∷
+    []
+
+unfoldable pub productions17 : List Production
+productions17 =
+    -- program = decl* EOF; the end belongs to every derivation of a token list
+    rule program (row programRow) (part declarations ∷ []) ∷
+    rule declarations noRow (part declaration ∷ part declarations ∷ []) ∷
+    rule declarations noRow [] ∷
+    -- decl = import_decl | ffi_decl | trait_decl | impl_decl | fn_decl | struct_decl | enum_decl | const_decl
+    -- import_decl = '$' STR IDENT?
+    rule declaration (row importRow) (mark dollar ∷ mark string ∷ part alias ∷ []) ∷
+    rule alias noRow (token name ∷ []) ∷
+    rule alias noRow [] ∷
+    -- ffi_decl = '&' STR '@' IDENT ffi_param* '→' type
+    rule declaration (row foreignRow) (mark ampersand ∷ mark string ∷ mark at ∷ token name ∷ part fields ∷ mark arrow ∷ part type ∷ []) ∷
+    -- ffi_param = type IDENT?, which is field below
+    -- type_params = '[' IDENT+ ']', everywhere as type_params?
+    rule typeParameters noRow (when (query opensNames) {- rule 2 -} ∷ part nameList ∷ []) ∷
+    rule typeParameters noRow (unless (query opensNames) {- rule 2 -} ∷ []) ∷
+    rule nameList (row listRow) (mark leftBracket ∷ token declaredWord ∷ part moreNames ∷ mark rightBracket ∷ []) ∷
+    rule moreNames noRow (token declaredWord ∷ part moreNames ∷ []) ∷
+    rule moreNames noRow [] ∷
+    -- fn_decl = '@' IDENT type_params? param* '→' type block
+    rule declaration noRow (part function ∷ []) ∷
+    rule function (row functionRow)
+        (mark at ∷ token name ∷ part typeParameters ∷ part parameters ∷ mark arrow ∷ part type ∷ part block ∷ []) ∷
+    -- param = type IDENT
+    rule parameters noRow (part parameter ∷ part parameters ∷ []) ∷
+    rule parameters noRow [] ∷
+    rule parameter (row parameterRow) (part type ∷ token name ∷ []) ∷
+    -- struct_decl, enum_decl and const_decl begin with ':'
+    rule declaration rowOf (mark colon ∷ part definition ∷ []) ∷
+    -- struct_decl = ':' IDENT type_params? '{' field* '}'
+    rule definition (says structRow)
+        (when (query opensStruct) ∷ token name ∷ part typeParameters ∷ mark leftBrace ∷ part fields ∷ mark rightBrace ∷ []) ∷
+    -- field = type IDENT?
+    rule fields noRow (part field ∷ part fields ∷ []) ∷
+    rule fields noRow [] ∷
+    rule field (row parameterRow) (part type ∷ part fieldName ∷ []) ∷
+    rule fieldName noRow (token name ∷ []) ∷
+    rule fieldName noRow (unless anyName {- rule 5 -} ∷ []) ∷
+    -- enum_decl = ':' '|' IDENT '{' enum_variant* '}'
+    rule definition (says enumRow) (mark bar ∷ token name ∷ mark leftBrace ∷ part variants ∷ mark rightBrace ∷ []) ∷
+    -- enum_variant = IDENT type*
+    rule variants noRow (part variant ∷ part variants ∷ []) ∷
+    rule variants noRow [] ∷
+    rule variant (row variantRow) (when plainName {- rule 4 -} ∷ token name ∷ part payloadTypes ∷ []) ∷
+    rule payloadTypes noRow (unless plainName {- rule 4 -} ∷ part type ∷ part payloadTypes ∷ []) ∷
+    rule payloadTypes noRow [] ∷
+    -- const_decl = ':' '~'? type IDENT literal
+    rule definition (says constantRow)
+        (unless (query opensStruct) ∷ part mutable ∷ part type ∷ token name ∷ part literal ∷ []) ∷
+    rule mutable noRow (mark tilde ∷ []) ∷
+    rule mutable noRow [] ∷
+    -- trait_decl = '%' IDENT type_params? '{' ( fn_header | fn_decl )* '}'
+    -- impl_decl = '%' IDENT type_params? type '{' fn_decl* '}'
+    rule declaration noRow (part interface ∷ []) ∷
+    rule interface rowOf (mark percent ∷ token name ∷ part typeParameters ∷ part interfaceRest ∷ []) ∷
+    rule interfaceRest (says traitRow) (mark leftBrace ∷ part methods ∷ mark rightBrace ∷ []) ∷
+    rule interfaceRest (says implRow) (part type ∷ mark leftBrace ∷ part functions ∷ mark rightBrace ∷ []) ∷
+    rule methods noRow (part method ∷ part methods ∷ []) ∷
+    rule methods noRow [] ∷
+    rule functions noRow (part function ∷ part functions ∷ []) ∷
+    rule functions noRow [] ∷
+    -- fn_header = '@' IDENT type_params? param* '→' type, which is a fn_decl without its block
+    rule method rowOf (mark at ∷ token name ∷ part typeParameters ∷ part parameters ∷ mark arrow ∷ part type ∷ part body ∷ []) ∷
+    rule body (says functionRow) (part block ∷ []) ∷
+    rule body (says headerRow) [] ∷
+    -- block = '{' stmt* '}'
+    rule block (row blockRow) (mark leftBrace ∷ part statements ∷ mark rightBrace ∷ []) ∷
+    rule statements noRow (part statement ∷ part statements ∷ []) ∷
+    rule statements noRow [] ∷
+    -- stmt = let_stmt | set_stmt | defer_stmt | tilde_stmt | expr
+    rule statement noRow (unless aTilde {- rule 6 -} ∷ part expression ∷ []) ∷
+    -- let_stmt = ':' '~'? type? IDENT expr
+    rule statement (row letRow) (mark colon ∷ part mutable ∷ part binding ∷ []) ∷
+    rule binding noRow (unless plainName {- rule 3 -} ∷ part type ∷ token name ∷ part expression ∷ []) ∷
+    rule binding noRow (when plainName {- rule 3 -} ∷ token name ∷ part expression ∷ []) ∷
+    -- set_stmt = '=' IDENT expr | '=' '.' expr ( IDENT | INT | expr ) expr, by rule 9 the index is one expr
+    rule statement rowOf (mark equal ∷ part assignment ∷ []) ∷
+    rule assignment (says setNameRow) (token name ∷ part expression ∷ []) ∷
+    rule assignment (says setElementRow) (mark dot ∷ part expression ∷ part expression ∷ part expression ∷ []) ∷
+    -- defer_stmt = ';' block
+    rule statement (row deferRow) (mark semicolon ∷ part block ∷ []) ∷
+    -- tilde_stmt = loop_stmt | foreach_stmt | complement_expr
+    -- foreach_stmt = '~' IDENT expr block; loop_stmt = '~' expr block; complement_expr = '~' expr
+    rule statement rowOf (mark tilde ∷ part tildeStatement ∷ []) ∷
+    rule tildeStatement (says foreachRow) (when (query twoNames) {- rule 6 -} ∷ token name ∷ part expression ∷ part block ∷ []) ∷
+    rule tildeStatement noRow (unless (query twoNames) {- rule 6 -} ∷ part expression ∷ part loopOrComplement ∷ []) ∷
+    rule loopOrComplement (says whileRow) (part block ∷ []) ∷
+    rule loopOrComplement (says complementRow) (unless aBrace {- rule 6 -} ∷ []) ∷
+    -- expr = literal | IDENT | bin_expr | not_expr | ret_expr | complement_expr | try_expr | closure_expr | sizeof_expr
+    --      | agg_expr | slice_literal | cond_expr | block_expr | call_expr | member_expr | cast_expr | match_expr
+    rule expression noRow (part literal ∷ []) ∷
+    rule expression (row nameRow) (token name ∷ []) ∷
+    -- bin_expr = BIN_OP expr expr
+    rule expression (row binaryRow) (token operators ∷ part expression ∷ part expression ∷ []) ∷
+    -- not_expr = '!' expr; ret_expr = '^' expr; complement_expr = '~' expr
+    rule expression (row notRow) (mark bang ∷ part expression ∷ []) ∷
+    rule expression (row returnRow) (mark caret ∷ part expression ∷ []) ∷
+    rule expression (row complementRow) (mark tilde ∷ part expression ∷ []) ∷
+    -- try_expr = '\\' expr; closure_expr = '\\' param* '→' type block
+    rule expression rowOf (mark backslash ∷ part tryOrClosure ∷ []) ∷
+    rule tryOrClosure (says tryRow) (unless (query opensClosure) {- rule 7 -} ∷ part expression ∷ []) ∷
+    rule tryOrClosure (says closureRow)
+        (when (query opensClosure) {- rule 7 -} ∷ part parameters ∷ mark arrow ∷ part type ∷ part block ∷ []) ∷
+    -- sizeof_expr = 'Z' type
+    rule expression (row sizeofRow) (mark sizeof ∷ part type ∷ []) ∷
+    -- cond_expr = '?' expr expr expr
+    rule expression (row conditionalRow) (mark question ∷ part expression ∷ part expression ∷ part expression ∷ []) ∷
+    -- block_expr = '{' stmt* '}'
+    rule expression noRow (part block ∷ []) ∷
+    -- call_expr = '(' IDENT ( '[' IDENT+ ']' )? expr* ')'
+    rule expression (row callRow) (mark leftParen ∷ token name ∷ part typeArguments ∷ part expressions ∷ mark rightParen ∷ []) ∷
+    rule typeArguments noRow (when (query opensWords) {- rule 2 -} ∷ part wordList ∷ []) ∷
+    rule typeArguments noRow (unless (query opensWords) {- rule 2 -} ∷ []) ∷
+    rule wordList (row listRow) (mark leftBracket ∷ token word ∷ part moreWords ∷ mark rightBracket ∷ []) ∷
+    rule moreWords noRow (token word ∷ part moreWords ∷ []) ∷
+    rule moreWords noRow [] ∷
+    rule expressions noRow (part expression ∷ part expressions ∷ []) ∷
+    rule expressions noRow [] ∷
+    -- slice_literal = '[' type '|' expr* ']'
+    rule expression (row sliceRow) (mark leftBracket ∷ part type ∷ mark bar ∷ part expressions ∷ mark rightBracket ∷ []) ∷
+    -- agg_expr = '@' type '{' expr* '}'
+    rule expression (row aggregateRow) (mark at ∷ part type ∷ mark leftBrace ∷ part expressions ∷ mark rightBrace ∷ []) ∷
+    -- member_expr = '.' expr ( IDENT | INT | expr ), by rule 9 the index is one expr
+    rule expression (row memberRow) (mark dot ∷ part expression ∷ part expression ∷ []) ∷
+    -- cast_expr = '#' type expr [ INT ]
+    rule expression (row castRow) (mark hash ∷ part castRest ∷ []) ∷
+    rule castRest noRow (when aStar {- rule 8 -} ∷ part type ∷ part expression ∷ part selector ∷ []) ∷
+    rule castRest noRow (unless aStar {- rule 8 -} ∷ part type ∷ part expression ∷ []) ∷
+    rule selector noRow (when (query zeroOrOne) {- rule 8 -} ∷ part literal ∷ []) ∷
+    rule selector noRow (unless (query zeroOrOne) {- rule 8 -} ∷ []) ∷
+    -- match_expr = '??' expr '{' match_arm* '}'
+    rule expression (row matchRow) (mark questionQuestion ∷ part expression ∷ mark leftBrace ∷ part arms ∷ mark rightBrace ∷ []) ∷
+    rule arms noRow (part arm ∷ part arms ∷ []) ∷
+    rule arms noRow [] ∷
+    -- match_arm = ( IDENT | BOOL | '_' ) match_payload* '→' expr, by rule 10 with zero to three payloads
+    rule arm (row armRow) (token armHead ∷ part payloads3 ∷ mark arrow ∷ part expression ∷ []) ∷
+    rule payloads3 noRow (part payload ∷ part payloads2 ∷ []) ∷
+    rule payloads3 noRow [] ∷
+    rule payloads2 noRow (part payload ∷ part payloads1 ∷ []) ∷
+    rule payloads2 noRow [] ∷
+    rule payloads1 noRow (part payload ∷ []) ∷
+    rule payloads1 noRow [] ∷
+    -- match_payload = IDENT | INT
+    rule payload (row payloadRow) (token payloadToken ∷ []) ∷
+    -- type = base_type | ptr_type | opt_type | slice_type | res_type | fn_type | generic_inst | IDENT
+    -- base_type = 'i' | 'u' | 'f' | 'b' | 's' | 'v'
+    rule type (row baseTypeRow) (mark keyword ∷ []) ∷
+    -- ptr_type = '*' type; opt_type = '?' type; slice_type = '[' type; res_type = '!' type type
+    rule type (row pointerRow) (mark star ∷ part type ∷ []) ∷
+    rule type (row optionalRow) (mark question ∷ part type ∷ []) ∷
+    rule type (row sliceTypeRow) (mark leftBracket ∷ part type ∷ []) ∷
+    rule type (row resultRow) (mark bang ∷ part type ∷ part type ∷ []) ∷
+    -- fn_type = '(' '@' type type* ')'; generic_inst = '(' IDENT IDENT+ ')'
+    rule type rowOf (mark leftParen ∷ part parenthesized ∷ []) ∷
+    rule parenthesized (says functionTypeRow) (mark at ∷ part type ∷ part types ∷ mark rightParen ∷ []) ∷
+    rule parenthesized (says instanceRow) (token name ∷ token word ∷ part moreWords ∷ mark rightParen ∷ []) ∷
+    rule types noRow (part type ∷ part types ∷ []) ∷
+    rule types noRow [] ∷
+    -- a named type: by rule 1 any IDENT, `T` or `F`
+    rule type (row namedTypeRow) (token typeWord ∷ []) ∷
+    -- literal = INT | FLOAT | STR | BOOL
+    rule literal (row literalRow) (token literals ∷ []) ∷
+    []

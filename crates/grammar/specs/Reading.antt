@@ -1,0 +1,105 @@
+-- The leftmost reading: from the first token on, always the production that the next token can begin, else the one that may
+-- derive no token.
+use Prim.Native.Nat.{ℕ, zero, suc, _+_, _*_}
+use mathlib.Core.Bool.{Bool, true, false}
+use mathlib.Core.List.{List, [], _∷_, _++_}
+use lib.Dec.{eqb}
+use lib.ListN.{length}
+use Rattle.lexer.specs.Tests.{and, pick}
+use Rattle.grammar.specs.Grammars.{endOfTokens, among, next, Symbol, token, part, condition, when, Gives}
+use Rattle.grammar.specs.Grammars.{Production, Names, View, met}
+use Rattle.grammar.specs.Rows.{Row, made, passed, firstSaid, levels}
+use Rattle.grammar.specs.First.{canBegin, canSkip}
+
+pub data Outcome : Type 0 where
+  -- read up to a token: the rows, and the kind said for the row that this is a part of
+  ok : ℕ → List Row → ℕ → Outcome
+  -- a token that cannot be taken: refusal 6
+  stuck : ℕ → Outcome
+  -- a token that can begin the row called for, where no level is left: refusal 7
+  deep : ℕ → Outcome
+  -- the fuel is spent
+  spent : Outcome
+
+-- the conditions at the front of some symbols are met
+unfoldable pub ready : View → Names → ℕ → List Symbol → Bool
+ready v e i [] = true
+ready v e i (token cs ∷ ss) = true
+ready v e i (part x ∷ ss) = true
+ready v e i (condition b q ∷ ss) =
+    let rest = ready v e i ss in
+    and (met v e i b q) rest
+
+pub data Choice : Type 0 where
+  none : Choice
+  one : Production → Choice
+
+-- the first production of a nonterminal that passes a test and whose conditions are met
+unfoldable pub find : View → Names → ℕ → ℕ → (Production → Bool) → List Production → Choice
+find v e i x test [] = none
+find v e i x test (p ∷ ps) =
+    let rest = find v e i x test ps in
+    let conditions = ready v e i (p .right) in
+    let fits = and (test p) conditions in
+    pick (and (eqb (p .left) x) fits) (one p) rest
+
+unfoldable pub orElse : Choice → Choice → Choice
+orElse none c = c
+orElse (one p) c = one p
+
+-- the production of a nonterminal that the reading takes at a token
+unfoldable pub choice : List Production → View → Names → ℕ → ℕ → Choice
+choice g v e x i =
+    let c = v .class e i in
+    let other = find v e i x (canSkip g c) g in
+    orElse (find v e i x (canBegin g c) g) other
+
+-- what is read after a part that was read
+unfoldable pub onward : Outcome → (ℕ → List Row → ℕ → Outcome) → Outcome
+onward (ok j rows said) rest = rest j rows said
+onward (stuck i) rest = stuck i
+onward (deep i) rest = deep i
+onward spent rest = spent
+
+-- what is read below so many levels, of those that are left
+unfoldable pub descend : ℕ → ℕ → ℕ → (ℕ → Outcome) → Outcome
+descend zero left i below = below left
+descend (suc l) zero i below = deep i
+descend (suc l) (suc left) i below = descend l left i below
+
+unfoldable pub enter : Choice → ℕ → ℕ → (Production → ℕ → Outcome) → Outcome
+enter none left i within = stuck i
+enter (one p) left i within = descend (levels (p .gives)) left i (within p)
+
+-- a production read from i to j, and what comes after it
+unfoldable pub joined : Gives → ℕ → ℕ → List Row → ℕ → ℕ → List Row → ℕ → Outcome
+joined gives i j inner said k rest later = ok k (made gives i j said inner ++ rest) (firstSaid (passed gives said) later)
+
+-- `readWithin g v fuel e n ss i`: the symbols ss from token i on, under the names e and with n levels left
+unfoldable pub readWithin : List Production → View → ℕ → Names → ℕ → List Symbol → ℕ → Outcome
+readWithin g v zero e n ss i = spent
+readWithin g v (suc fuel) e n [] i = ok i [] 0
+readWithin g v (suc fuel) e n (token cs ∷ ss) i =
+    let rest = readWithin g v fuel e n ss (suc i) in
+    pick (among cs (v .class e i)) rest (stuck i)
+readWithin g v (suc fuel) e n (condition b q ∷ ss) i =
+    let rest = readWithin g v fuel e n ss i in
+    pick (met v e i b q) rest (stuck i)
+readWithin g v (suc fuel) e n (part x ∷ ss) i =
+    enter (choice g v (v .inside x i e) x i) n i (λ (p : Production) (below : ℕ).
+    onward (readWithin g v fuel (v .inside x i e) below (p .right) i) (λ (j : ℕ) (inner : List Row) (said : ℕ).
+    onward (readWithin g v fuel e n ss j) (joined (p .gives) i j inner said)))
+
+-- the symbols of a table, and one for each production: while no token is taken, no symbol is met twice
+unfoldable pub breadth : List Production → ℕ
+breadth [] = 0
+breadth (p ∷ ps) = suc (length (p .right)) + breadth ps
+
+-- a nonterminal and then the end of the tokens
+abbrev pub whole : ℕ → List Symbol
+whole x = part x ∷ when (next (endOfTokens ∷ [])) ∷ []
+
+-- The reading of a token list of so many tokens, under the names e and with n levels. Its fuel always suffices (`never-spent` in
+-- proofs/).
+unfoldable pub reading : List Production → View → ℕ → Names → ℕ → ℕ → Outcome
+reading g v count e n x = readWithin g v (suc count * suc (breadth g)) e n (whole x) 0

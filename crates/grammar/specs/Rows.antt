@@ -1,0 +1,42 @@
+-- The rows of a tree: "parent first, children left to right".
+use Prim.Native.Nat.{ℕ, zero, suc, _-_}
+use mathlib.Core.List.{List, [], _∷_}
+use lib.ListN.{length}
+use Rattle.grammar.specs.Grammars.{Gives, row, rowOf, says, noRow}
+
+-- "kind, first token, tokens covered, rows in the subtree with itself"
+pub record Row : Type 0 where
+  pub kind : ℕ
+  pub first : ℕ
+  pub cover : ℕ
+  pub count : ℕ
+
+-- a row of a kind from token i to token j above its children's rows
+abbrev pub above : ℕ → ℕ → ℕ → List Row → List Row
+above kind i j children = record { kind = kind; first = i; cover = j - i; count = suc (length children) } ∷ children
+
+-- the rows of a production from token i to token j, given the kind that its parts say and their rows
+unfoldable pub made : Gives → ℕ → ℕ → ℕ → List Row → List Row
+made (row kind) i j said rows = above kind i j rows
+made rowOf i j said rows = above said i j rows
+made (says kind) i j said rows = rows
+made noRow i j said rows = rows
+
+-- the kind that a production says for the row that it is a part of, 0 if none
+unfoldable pub passed : Gives → ℕ → ℕ
+passed (row kind) said = 0
+passed rowOf said = 0
+passed (says kind) said = kind
+passed noRow said = said
+
+-- the kind that one of two parts says, of both the first
+unfoldable pub firstSaid : ℕ → ℕ → ℕ
+firstSaid zero later = later
+firstSaid (suc said) later = suc said
+
+-- the levels that a production takes: "a child is its parent's level plus one"
+unfoldable pub levels : Gives → ℕ
+levels (row kind) = 1
+levels rowOf = 1
+levels (says kind) = 0
+levels noRow = 0

@@ -1,0 +1,66 @@
+-- The type names of a source: the set N of document 01.
+use Prim.Native.Nat.{ℕ, zero, suc, _-_}
+use mathlib.Core.Bool.{Bool, false}
+use mathlib.Core.List.{List, [], _∷_, _++_}
+use lib.Dec.{eqb}
+use lib.ListN.{take, drop}
+use Rattle.lexer.specs.Tests.{and, or, pick}
+use Rattle.lexer.specs.Kinds.{ident, colon, bar, leftBrace, rightBrace}
+use Rattle.lexer.specs.Words.{sameName}
+use Rattle.lexer.specs.Tokens.{Token}
+
+-- a token by what the grammar asks of it: its kind and its bytes
+pub record Item : Type 0 where
+  pub kind : ℕ
+  pub text : List ℕ
+
+unfoldable pub itemOf : List ℕ → Token → Item
+itemOf source t = record { kind = t .kind; text = take (t .length) (drop (t .start) source) }
+
+-- the tokens of a source with their texts
+unfoldable pub items : List ℕ → List Token → List Item
+items source [] = []
+items source (t ∷ ts) = itemOf source t ∷ items source ts
+
+-- whether a name is one of some names
+unfoldable pub isNamed : List (List ℕ) → List ℕ → Bool
+isNamed [] w = false
+isNamed (n ∷ ns) w = or (sameName n w) (isNamed ns w)
+
+-- whether a kind is one of some kinds
+unfoldable pub isOneOf : List ℕ → ℕ → Bool
+isOneOf [] k = false
+isOneOf (m ∷ ms) k = or (eqb m k) (isOneOf ms k)
+
+-- the third of three tokens, where they are `:` `|` IDENT
+unfoldable pub enumName : Item → Item → Item → List (List ℕ)
+enumName a b c =
+    pick (and (eqb (a .kind) colon) (and (eqb (b .kind) bar) (eqb (c .kind) ident))) (c .text ∷ []) []
+
+-- the second of three tokens, where they are `:` IDENT and one of the kinds that open a struct
+unfoldable pub structName : List ℕ → Item → Item → Item → List (List ℕ)
+structName opening a b c =
+    pick (and (eqb (a .kind) colon) (and (eqb (b .kind) ident) (isOneOf opening (c .kind)))) (b .text ∷ []) []
+
+-- "Depth counts `{` and `}` tokens and does not go below zero": the depth after a token
+unfoldable pub deeper : ℕ → ℕ → ℕ
+deeper depth kind = pick (eqb kind leftBrace) (suc depth) (pick (eqb kind rightBrace) (depth - 1) depth)
+
+-- what three tokens declare at a depth: "at brace depth zero"
+unfoldable pub namesAt : List ℕ → ℕ → Item → Item → Item → List (List ℕ)
+namesAt opening zero a b c = structName opening a b c ++ enumName a b c
+namesAt opening (suc depth) a b c = []
+
+-- "each IDENT that stands directly after `:` and before `{` or `[`, or directly after `:` `|`, at brace depth zero", from a
+-- depth on
+unfoldable pub declared : List ℕ → ℕ → List Item → List (List ℕ)
+declared opening depth [] = []
+declared opening depth (a ∷ []) = []
+declared opening depth (a ∷ b ∷ []) = []
+declared opening depth (a ∷ b ∷ c ∷ ts) =
+    namesAt opening depth a b c ++ declared opening (deeper depth (a .kind)) (b ∷ c ∷ ts)
+
+-- The set N (document 01, "Type names of a source"): "the extra names" and the names declared in the whole token list. The kinds
+-- that open a struct are `{` and `[` in grammar 1.7.
+unfoldable pub typeNames : List ℕ → List (List ℕ) → List Item → List (List ℕ)
+typeNames opening extra ts = extra ++ declared opening zero ts
