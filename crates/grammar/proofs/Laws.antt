@@ -11,3 +11,6 @@ pub mod Fuel
 pub mod Takes
 pub mod Forests
 pub mod Readings
+pub mod Views
+pub mod Nurl
+pub mod Examples

@@ -8,13 +8,16 @@ use Rattle.lexer.specs.Kinds.{ident, leftBrace, leftBracket}
 use Rattle.lexer.specs.Editions.{Edition, edition17}
 use Rattle.typenames.specs.TypeNames.{Item, isNamed}
 use Rattle.grammar.specs.Grammars.{Production, Names, View}
+use Rattle.grammar.specs.Nonterminals.{program}
 use Rattle.grammar.specs.Classes.{typeName}
-use Rattle.grammar.specs.Questions.{Question, answered}
+use Rattle.grammar.specs.Questions.{Question, answerTo}
 use Rattle.grammar.specs.Nurl.{productions17, questions17}
 
 pub record Language : Type 0 where
   pub lexical : Edition
   pub productions : List Production
+  -- the nonterminal that a whole source is
+  pub start : ℕ
   pub questions : List Question
   -- the kinds of token that make an IDENT between `:` and them a type name
   pub opening : List ℕ
@@ -24,7 +27,13 @@ pub record Language : Type 0 where
 -- grammar 1.7, document 009: no nonterminal adds names
 unfoldable pub language17 : Language
 language17 =
-    record { lexical = edition17; productions = productions17; questions = questions17; opening = leftBrace ∷ leftBracket ∷ []; adds = λ x ts. [] }
+    record {
+      lexical = edition17;
+      productions = productions17;
+      start = program;
+      questions = questions17;
+      opening = leftBrace ∷ leftBracket ∷ [];
+      adds = λ x ts. [] }
 
 abbrev pub noItem : Item
 noItem = record { kind = 0; text = [] }
@@ -38,5 +47,5 @@ unfoldable pub view : Language → List Item → View
 view l ts =
     record {
       class = λ e i. classOf e (getD ts i noItem);
-      holds = λ q i. answered (l .questions) q (drop i ts);
+      holds = λ q i. answerTo (l .questions) q (drop i ts);
       inside = λ x i e. l .adds x (drop i ts) ++ e }

@@ -11,3 +11,7 @@ pub mod Classes
 pub mod Questions
 pub mod Nurl
 pub mod Languages
+pub mod TreeTable
+pub mod Answers
+pub mod Examples
+pub mod Demands

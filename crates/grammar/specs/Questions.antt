@@ -48,9 +48,9 @@ pub record Question : Type 0 where
   pub number : ℕ
   pub patterns : List (List Piece)
 
-unfoldable pub answered : List Question → ℕ → List Item → Bool
-answered [] number ts = false
-answered (q ∷ qs) number ts =
-    let rest = answered qs number ts in
+unfoldable pub answerTo : List Question → ℕ → List Item → Bool
+answerTo [] number ts = false
+answerTo (q ∷ qs) number ts =
+    let rest = answerTo qs number ts in
     let fit = fitsOne (q .patterns) ts in
     pick (eqb (q .number) number) fit rest

@@ -1,7 +1,7 @@
 -- The token list of a source, or its first fault.
 use Prim.Native.Nat.{ℕ, zero, suc, _+_}
 use mathlib.Core.List.{List, [], _∷_}
-use lib.ListN.{length, drop}
+use lib.ListN.{length, take, drop}
 use Rattle.lexer.specs.Editions.{Edition}
 use Rattle.lexer.specs.Lexemes.{lexeme}
 use Rattle.lexer.specs.declared.Lexeme.{Lexeme}
@@ -33,6 +33,11 @@ lexemesWithin e (suc m) s =
 -- each lexeme takes a byte at least, so that the length bounds their number
 unfoldable pub lexemes : Edition → List ℕ → List Lexeme
 lexemes e s = lexemesWithin e (length s) s
+
+-- some bytes cut by the sizes of lexemes, in order: each byte belongs to one of them
+unfoldable pub pieces : List ℕ → List Lexeme → List (List ℕ)
+pieces s [] = []
+pieces s (l ∷ ls) = take (size l) s ∷ pieces (drop (size l) s) ls
 
 -- a token: its kind, the offset of its first byte, and its length in bytes
 pub record Token : Type 0 where

@@ -1,7 +1,8 @@
 -- The computed tests of a table, which the theorems about readings ask of it, and the hints that they are given: what may
 -- follow a nonterminal, which nonterminals may be empty, how much fuel one needs before a token is taken, how many rows it makes.
 -- Assumes nothing; a wrong hint only fails a test.
-use Prim.Native.Nat.{ℕ, zero, suc, _+_, _*_, max}
+use Prim.Native.Nat.{ℕ, zero, suc, _+_, _≤_, max}
+use mathlib.Core.Path.{_≡_}
 use mathlib.Core.Bool.{Bool, true, false}
 use mathlib.Core.List.{List, [], _∷_}
 use lib.Dec.{eqb, leb}
@@ -80,14 +81,16 @@ unfoldable pub exclusive : List Production → Hints → ℕ → List Production
 exclusive g h c [] = true
 exclusive g h c (p ∷ ps) = and (implies (live g h c p) (every (excludes g h c p) ps)) (exclusive g h c ps)
 
--- all tests at one class
-unfoldable pub passesAt : List Production → Hints → ℕ → Bool
-passesAt g h c =
-    and (every (firstClosed g c) g) (and (every (emptyClosed g c) g) (and (every (followClosed g h c) g) (exclusive g h c g)))
-
 unfoldable pub below : (ℕ → Bool) → ℕ → Bool
 below test zero = true
 below test (suc n) = and (test n) (below test n)
+
+-- the tests at each class below a bound
+pub record Closed (g : List Production) (h : Hints) (bound : ℕ) : Type 0 where
+  pub firsts : below (λ (c : ℕ). every (firstClosed g c) g) bound ≡ true
+  pub empties : below (λ (c : ℕ). every (emptyClosed g c) g) bound ≡ true
+  pub follows : below (λ (c : ℕ). every (followClosed g h c) g) bound ≡ true
+  pub exclude : below (λ (c : ℕ). exclusive g h c g) bound ≡ true
 
 -- no production takes the end of the tokens for a token
 unfoldable pub noEnd : List Symbol → Bool
@@ -137,8 +140,12 @@ moreOf h (condition b q ∷ ss) = moreOf h ss
 unfoldable pub fewRows : Hints → Production → Bool
 fewRows h p = leb (levels (p .gives) + h .fewer (p .left) + moreOf h (p .right)) (fewerOf h (p .right) + h .more (p .left))
 
--- All tests of a table whose start is x, where classes are below a bound.
-unfoldable pub passes : List Production → Hints → ℕ → ℕ → Bool
-passes g h bound x =
-    and (below (passesAt g h) bound) (and (h .follow x endOfTokens) (and (every (falls h (suc (breadth g))) g)
-    (and (bounded h (suc (breadth g)) (whole x)) (and (every (fewRows h) g) (leb (h .more x) 1)))))
+-- all tests of a table whose start is x, where classes are below a bound
+pub record Passes (g : List Production) (h : Hints) (bound x : ℕ) : Type 0 where
+  pub closed : Closed g h bound
+  -- what may follow the start is the end of the tokens
+  pub ended : h .follow x endOfTokens ≡ true
+  pub falling : every (falls h (suc (breadth g))) g ≡ true
+  pub start : bounded h (suc (breadth g)) (whole x) ≡ true
+  pub few : every (fewRows h) g ≡ true
+  pub once : h .more x ≤ 1

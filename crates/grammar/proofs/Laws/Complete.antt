@@ -12,7 +12,7 @@ use Rattle.grammar.specs.Rows.{Row, levels}
 use Rattle.grammar.specs.Derivations.{Has, Derives, end, taken, held, entered}
 use Rattle.grammar.specs.First.{canBegin, canSkip}
 use Rattle.grammar.specs.Reading.{Outcome, ok, stuck, deep, spent, one, choice, onward, descend, enter, joined, readWithin}
-use Rattle.grammar.proofs.Laws.Checks.{Hints, may, live, passesAt, below}
+use Rattle.grammar.proofs.Laws.Checks.{Hints, may, live, Closed}
 use Rattle.grammar.proofs.Laws.Choices.{choice-is}
 use Rattle.grammar.proofs.Laws.Follow.{Steady, passed-at, derives-ready, Flows, flows-rest, flows-right, may-begin, part-followed}
 
@@ -37,7 +37,7 @@ descend-below zero n m i below h = rw h (rw zero-add refl)
 descend-below (suc l) zero m i below h = absurd (omega arith)
 descend-below (suc l) (suc n) m i below h = descend-below l n m i below (omega arith)
 
-module _ (g : List Production) (v : View) (h : Hints) (bound : ℕ) (good : below (passesAt g h) bound ≡ true) (steady : Steady v h bound) where
+module _ (g : List Production) (v : View) (h : Hints) (bound : ℕ) (good : Closed g h bound) (steady : Steady v h bound) where
   -- the production that a derivation uses is the one that the reading takes
   taken-choice : {e : Names} {n i j said : ℕ} {rows : List Row} (x : ℕ) (p : Production) → Has g p → p .left ≡ x
       → Derives g v e n (p .right) i j rows said → h .follow x (v .class e j) ≡ true → choice g v e x i ≡ one p

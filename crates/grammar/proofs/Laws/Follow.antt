@@ -15,7 +15,7 @@ use Rattle.grammar.specs.Derivations.{Has, Derives, end, taken, held, en
 use Rattle.grammar.specs.First.{allows, skips, starts, empty, first, canBegin, canSkip}
 use Rattle.grammar.specs.Reading.{ready}
 use Rattle.grammar.proofs.Laws.Checks.{Hints, implies, every, may, firstClosed, emptyClosed, flows, followClosed, exclusive}
-use Rattle.grammar.proofs.Laws.Checks.{passesAt, below}
+use Rattle.grammar.proofs.Laws.Checks.{Closed}
 use Rattle.grammar.proofs.Laws.Tests.{and-both, implies-true, every-has, below-at}
 
 -- what the theorems ask of a view: its classes are below a bound, and the names that a nonterminal adds change neither the class
@@ -32,17 +32,12 @@ pub record Passed (g : List Production) (h : Hints) (c : ℕ) : Type 0 where
   pub follows : every (followClosed g h c) g ≡ true
   pub exclude : exclusive g h c g ≡ true
 
-pub passed-at : (g : List Production) (h : Hints) (bound c : ℕ) → below (passesAt g h) bound ≡ true → c < bound → Passed g h c
-unfolding passesAt
-passed-at g h bound c t l =
-    let all = below-at (passesAt g h) bound c t l in
-    let rest = and-right (every (firstClosed g c) g) _ all in
-    let more = and-right (every (emptyClosed g c) g) _ rest in
-    record {
-      firsts = and-left (every (firstClosed g c) g) _ all;
-      empties = and-left (every (emptyClosed g c) g) _ rest;
-      follows = and-left (every (followClosed g h c) g) (exclusive g h c g) more;
-      exclude = and-right (every (followClosed g h c) g) (exclusive g h c g) more }
+pub passed-at : (g : List Production) (h : Hints) (bound c : ℕ) → Closed g h bound → c < bound → Passed g h c
+passed-at g h bound c t l = record {
+  firsts = below-at (λ (c : ℕ). every (firstClosed g c) g) bound c (t .firsts) l;
+  empties = below-at (λ (c : ℕ). every (emptyClosed g c) g) bound c (t .empties) l;
+  follows = below-at (λ (c : ℕ). every (followClosed g h c) g) bound c (t .follows) l;
+  exclude = below-at (λ (c : ℕ). exclusive g h c g) bound c (t .exclude) l }
 
 -- less may follow
 may-less : (g : List Production) (c : ℕ) (a b : Bool) (ss : List Symbol) → implies a b ≡ true → may g c a ss ≡ true → may g c b ss ≡ true
@@ -95,7 +90,7 @@ may-part f e s k a (inr (p, q)) = rw p (cases f q)
     cases true m = refl
     cases false m = m
 
-module _ (g : List Production) (v : View) (h : Hints) (bound : ℕ) (good : below (passesAt g h) bound ≡ true) (steady : Steady v h bound) where
+module _ (g : List Production) (v : View) (h : Hints) (bound : ℕ) (good : Closed g h bound) (steady : Steady v h bound) where
   -- symbols whose parts are followed by what may follow them, where `after` says what may follow the last
   abbrev pub Flows : (ℕ → Bool) → List Symbol → Type 0
   Flows after ss = (c : ℕ) → c < bound → flows g h c (after c) ss ≡ true

@@ -14,7 +14,7 @@ use Rattle.grammar.specs.Rows.{Row}
 use Rattle.grammar.specs.Derivations.{Derives, end, taken, held, entered, Derivation, derivation}
 use Rattle.grammar.specs.First.{allows, skips, starts}
 use Rattle.grammar.specs.Reading.{Outcome, ok, stuck, deep, spent, breadth, whole, readWithin, reading}
-use Rattle.grammar.proofs.Laws.Checks.{Hints, noEnd, implies, every, may, flows, passesAt, below, bounded, falls, fewRows, passes}
+use Rattle.grammar.proofs.Laws.Checks.{Hints, noEnd, implies, every, may, flows, falls, Passes}
 use Rattle.grammar.proofs.Laws.Tests.{and-both, implies-by, every-has}
 use Rattle.grammar.proofs.Laws.Follow.{Steady, Flows}
 use Rattle.grammar.proofs.Laws.Complete.{complete, agrees-ok}
@@ -22,30 +22,6 @@ use Rattle.grammar.proofs.Laws.Sound.{sound}
 use Rattle.grammar.proofs.Laws.Grows.{Grows, byLevels, grows-stuck, more-levels, derives-wider}
 use Rattle.grammar.proofs.Laws.Fuel.{not-end, falls-of, never-spent}
 use Rattle.grammar.proofs.Laws.Forests.{rows-few}
-
--- what the tests say
-record Tests (g : List Production) (h : Hints) (bound x : ℕ) : Type 0 where
-  classes : below (passesAt g h) bound ≡ true
-  ended : h .follow x endOfTokens ≡ true
-  falling : every (falls h (suc (breadth g))) g ≡ true
-  start : bounded h (suc (breadth g)) (whole x) ≡ true
-  few : every (fewRows h) g ≡ true
-  once : h .more x ≤ 1
-
-tests-of : (g : List Production) (h : Hints) (bound x : ℕ) → passes g h bound x ≡ true → Tests g h bound x
-unfolding passes
-tests-of g h bound x t =
-    let a = and-right (below (passesAt g h) bound) _ t in
-    let b = and-right (h .follow x endOfTokens) _ a in
-    let c = and-right (every (falls h (suc (breadth g))) g) _ b in
-    let d = and-right (bounded h (suc (breadth g)) (whole x)) _ c in
-    record {
-      classes = and-left (below (passesAt g h) bound) _ t;
-      ended = and-left (h .follow x endOfTokens) _ a;
-      falling = and-left (every (falls h (suc (breadth g))) g) _ b;
-      start = and-left (bounded h (suc (breadth g)) (whole x)) _ c;
-      few = and-left (every (fewRows h) g) (leb (h .more x) 1) d;
-      once = leb-true (h .more x) 1 (and-right (every (fewRows h) g) (leb (h .more x) 1) d) }
 
 -- a view of so many tokens: the class is 0 past the last of them, and only there
 pub record Counted (v : View) (count : ℕ) : Type 0 where
@@ -98,14 +74,13 @@ module _ (g : List Production) (v : View) (h : Hints) (w count : ℕ) (falling :
       derives-within rest a (derives-within inner right l)
 
 -- For a table g whose start is x and which passes the tests, with any hints h, and for the tokens of a view v.
-module _ (g : List Production) (h : Hints) (bound x : ℕ) (good : passes g h bound x ≡ true)
+module _ (g : List Production) (h : Hints) (bound x : ℕ) (tests : Passes g h bound x)
     (v : View) (count : ℕ) (steady : Steady v h bound) (tokens : Counted v count) (e : Names) where
   -- 1. Sound: what is read is all of the tokens, and a derivation with those rows, within the levels.
   pub reading-sound : (n j said : ℕ) (rows : List Row) → reading g v count e n x ≡ ok j rows said
       → (j ≡ count) × (Derivation g v count e n x rows)
   unfolding reading noEnd
   reading-sound n j said rows r =
-      let tests = tests-of g h bound x good in
       let (d, ended) = of-whole (sound g v (suc count * suc (breadth g)) e n (whole x) 0 j rows said r) in
       let most = derives-within g v h (suc (breadth g)) count (tests .falling) tokens d refl (omega arith) in
       let least : ¬ (j < count) = λ (l : j < count). tokens .inside e j l ended in
@@ -113,18 +88,16 @@ module _ (g : List Production) (h : Hints) (bound x : ℕ) (good : passes g h bo
       (all, derivation (subst (λ (k : ℕ). Derives g v e n (part x ∷ []) 0 k rows said) all d))
 
   -- what comes after the start may follow it
-  start-flows : Flows g v h bound (tests-of g h bound x good .classes) steady (λ (c : ℕ). true) (whole x)
+  start-flows : Flows g v h bound (tests .closed) steady (λ (c : ℕ). true) (whole x)
   unfolding flows
   start-flows c l =
       and-both (implies (may g c true (when (next (endOfTokens ∷ [])) ∷ [])) (h .follow x c)) true
       (implies-by _ (h .follow x c) (λ (m : may g c true (when (next (endOfTokens ∷ [])) ∷ []) ≡ true).
-      rw (may-end g c m) (tests-of g h bound x good .ended))) refl
+      rw (may-end g c m) (tests .ended))) refl
 
   -- 5. The explicit fuel suffices.
   pub reading-unspent : (n : ℕ) → reading g v count e n x ≡ spent → ⊥
-  reading-unspent n =
-      let tests = tests-of g h bound x good in
-      never-spent g v h count (tokens .past) x (tests .start) (tests .falling) e n
+  reading-unspent n = never-spent g v h count (tokens .past) x (tests .start) (tests .falling) e n
 
   -- 2. Complete: a derivation within the levels is what is read, with exactly its rows.
   pub reading-complete : (n said : ℕ) (rows : List Row) → Derives g v e n (part x ∷ []) 0 count rows said
@@ -132,8 +105,7 @@ module _ (g : List Production) (h : Hints) (bound x : ℕ) (good : passes g h bo
   unfolding reading
   reading-complete n said rows d =
       let whole = whole-of d (tokens .past e count (omega arith)) in
-      let classes = tests-of g h bound x good .classes in
-      agrees-ok (complete g v h bound classes steady whole (λ (c : ℕ). true) start-flows refl (suc count * suc (breadth g))) (reading-unspent n)
+      agrees-ok (complete g v h bound (tests .closed) steady whole (λ (c : ℕ). true) start-flows refl (suc count * suc (breadth g))) (reading-unspent n)
 
   -- 3. Unique: any two derivations, at whatever depths, have the same rows.
   pub derivations-same : (n m : ℕ) (rows others : List Row) → Derivation g v count e n x rows → Derivation g v count e m x others
@@ -165,6 +137,4 @@ module _ (g : List Production) (h : Hints) (bound x : ℕ) (good : passes g h bo
 
   -- 6. There are at most two rows for each token, and one more.
   pub derivation-few : (n : ℕ) (rows : List Row) → Derivation g v count e n x rows → length rows ≤ 2 * count + 1
-  derivation-few n rows (derivation d) =
-      let tests = tests-of g h bound x good in
-      rows-few h (tests .few) (tests .once) d
+  derivation-few n rows (derivation d) = rows-few h (tests .few) (tests .once) d

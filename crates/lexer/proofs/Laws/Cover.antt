@@ -9,17 +9,12 @@ use lib.ListN.{length, take, drop, length-drop, drop-of-length-le}
 use lib.Seq.{take-all, take-length, take-add, drop-drop}
 use Rattle.lexer.specs.Editions.{Edition}
 use Rattle.lexer.specs.Lexemes.{number, lexeme}
-use Rattle.lexer.specs.Tokens.{Token, Scan, clean, fault, size, follow, lexemes, withToken, scan}
+use Rattle.lexer.specs.Tokens.{Token, Scan, clean, fault, size, follow, lexemes, pieces, withToken, scan}
 use Rattle.lexer.specs.declared.Lexeme.{Lexeme}
 use Rattle.lexer.specs.declared.Lexeme.the-variants.{End, Skipped, BadByte, OpenString}
 use Rattle.lexer.proofs.Laws.Sizes.{of-end, of-token, of-skip, spelled, proper}
 use Rattle.lexer.proofs.Laws.Scans.{lexemes-step, scanFrom, scan-from-start}
 use Rattle.lexer.proofs.Laws.Scans.{scan-end, scan-skip, scan-token, scan-bad, scan-open}
-
--- some bytes cut by the sizes of lexemes, in order
-unfoldable pub pieces : List ℕ → List Lexeme → List (List ℕ)
-pieces s [] = []
-pieces s (l ∷ ls) = take (size l) s ∷ pieces (drop (size l) s) ls
 
 -- where the lexemes of a source end
 unfoldable pub extent : List ℕ → Scan → ℕ

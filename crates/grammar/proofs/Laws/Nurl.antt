@@ -1,0 +1,157 @@
+-- The table of NURL 1.7 passes the computed tests. FOLLOW and the other hints stand here: nobody has to believe them, for a wrong
+-- one only fails a test. Assumes nothing.
+use Prim.Native.Nat.{ℕ, zero, suc, _+_}
+use mathlib.Core.Path.{_≡_, refl}
+use mathlib.Core.Bool.{Bool, true, false}
+use mathlib.Core.List.{List, [], _∷_}
+use native.Mathlib.Omega.{arith}
+use lib.Dec.{eqb}
+use lib.ListN.{getD}
+use Rattle.lexer.specs.Tests.{and, or, pick}
+use Rattle.lexer.specs.Kinds.{ident, keyword, boolean, int, dollar, ampersand, at, percent, colon, rightBrace, leftParen, rightParen}
+use Rattle.lexer.specs.Kinds.{leftBracket, rightBracket, bang, question, star, arrow}
+use Rattle.lexer.specs.Text.{bytes}
+use Rattle.grammar.specs.Grammars.{endOfTokens, among, agrees, Production, Names}
+use Rattle.grammar.specs.Rows.{levels}
+use Rattle.grammar.specs.First.{allows, skips, starts, anyOf, emptyWithin, firstWithin, empty, first, canBegin, canSkip}
+use Rattle.grammar.specs.Reading.{breadth, whole}
+use Rattle.grammar.specs.Classes.{typeName, classes, name}
+use Rattle.grammar.specs.Nonterminals.{program, declarations, declaration, alias, interface, methods, method, body, functions}
+use Rattle.grammar.specs.Nonterminals.{function, definition, mutable, fields, parameters, variants, variant, payloadTypes}
+use Rattle.grammar.specs.Nonterminals.{fieldName, typeParameters, moreNames, statements, loopOrComplement, expressions}
+use Rattle.grammar.specs.Nonterminals.{typeArguments, moreWords, selector, arms, payloads3, payloads2, payloads1, types, type}
+use Rattle.grammar.specs.Nonterminals.{interfaceRest, field, parameter, statement, binding, tildeStatement, expression}
+use Rattle.grammar.specs.Nonterminals.{tryOrClosure, castRest}
+use Rattle.grammar.specs.Nurl.{productions17}
+use Rattle.grammar.specs.Languages.{language17, view}
+use Rattle.typenames.specs.TypeNames.{Item}
+use Rattle.grammar.proofs.Laws.Checks.{Hints, implies, every, may, firstClosed, emptyClosed, flows, followClosed, live, asks, opposed}
+use Rattle.grammar.proofs.Laws.Checks.{excludes, exclusive, below, noEnd, vanishes, needs, bounded, falls, fewerOf}
+use Rattle.grammar.proofs.Laws.Checks.{moreOf, fewRows, Passes}
+use Rattle.grammar.proofs.Laws.Follow.{Steady}
+use Rattle.grammar.proofs.Laws.Views.{Kinds, class-below}
+
+-- what may follow a nonterminal; any class where there is no entry
+record Follow : Type 0 where
+  of : ℕ
+  by : List ℕ
+
+abbrev beginsDeclaration : List ℕ
+beginsDeclaration = dollar ∷ ampersand ∷ percent ∷ at ∷ colon ∷ []
+
+abbrev beginsType : List ℕ
+beginsType = keyword ∷ star ∷ question ∷ leftBracket ∷ bang ∷ leftParen ∷ boolean ∷ ident ∷ typeName ∷ []
+
+abbrev entry : ℕ → List ℕ → Follow
+entry x cs = record { of = x; by = cs }
+
+abbrev followed : List Follow
+followed =
+    entry program (endOfTokens ∷ []) ∷
+    entry declarations (endOfTokens ∷ []) ∷
+    entry declaration (endOfTokens ∷ beginsDeclaration) ∷
+    entry alias (endOfTokens ∷ beginsDeclaration) ∷
+    entry parameters (arrow ∷ []) ∷
+    entry fields (arrow ∷ rightBrace ∷ []) ∷
+    entry moreNames (rightBracket ∷ []) ∷
+    entry variants (rightBrace ∷ []) ∷
+    entry variant (ident ∷ rightBrace ∷ []) ∷
+    entry payloadTypes (ident ∷ rightBrace ∷ []) ∷
+    entry mutable beginsType ∷
+    entry methods (rightBrace ∷ []) ∷
+    entry method (at ∷ rightBrace ∷ []) ∷
+    entry body (at ∷ rightBrace ∷ []) ∷
+    entry functions (rightBrace ∷ []) ∷
+    entry statements (rightBrace ∷ []) ∷
+    entry expressions (rightParen ∷ rightBracket ∷ rightBrace ∷ []) ∷
+    entry moreWords (rightParen ∷ rightBracket ∷ []) ∷
+    entry arms (rightBrace ∷ []) ∷
+    entry payloads3 (arrow ∷ []) ∷
+    entry payloads2 (arrow ∷ []) ∷
+    entry payloads1 (arrow ∷ []) ∷
+    entry types (rightParen ∷ []) ∷
+    []
+
+unfoldable follow : List Follow → ℕ → ℕ → Bool
+follow [] x c = true
+follow (f ∷ fs) x c =
+    let rest = follow fs x c in
+    pick (eqb (f .of) x) (among (f .by) c) rest
+
+-- the fuel that a nonterminal needs before a token is taken
+unfoldable weightOf : ℕ → ℕ
+unfolding among
+weightOf x =
+    pick (among (statements ∷ tryOrClosure ∷ []) x) 5
+    (pick (among (program ∷ definition ∷ statement ∷ tildeStatement ∷ []) x) 4
+    (pick (among (declarations ∷ fields ∷ parameters ∷ variants ∷ payloadTypes ∷ typeParameters ∷ binding ∷ expressions ∷
+        typeArguments ∷ castRest ∷ selector ∷ []) x) 3
+    (pick (among (declaration ∷ interfaceRest ∷ methods ∷ body ∷ functions ∷ field ∷ fieldName ∷ parameter ∷ variant ∷
+        loopOrComplement ∷ expression ∷ arms ∷ payloads3 ∷ payloads2 ∷ payloads1 ∷ types ∷ []) x) 2 1)))
+
+unfoldable pub hints17 : Hints
+unfolding follow weightOf
+hints17 = record {
+    follow = follow followed;
+    nullable = among (
+        program ∷ declarations ∷ alias ∷ methods ∷ body ∷ functions ∷ mutable ∷ fields ∷ fieldName ∷ parameters ∷ variants ∷
+        payloadTypes ∷ typeParameters ∷ moreNames ∷ statements ∷ loopOrComplement ∷ expressions ∷ typeArguments ∷ moreWords ∷
+        selector ∷ arms ∷ payloads3 ∷ payloads2 ∷ payloads1 ∷ types ∷ []);
+    weight = weightOf;
+    -- a type has a row less than two for each token, the program one more
+    fewer = λ x. pick (eqb x type) 1 0;
+    more = λ x. pick (eqb x program) 1 0 }
+
+-- FIRST is closed
+firsts17 : below (λ (c : ℕ). every (firstClosed productions17 c) productions17) classes ≡ true
+unfolding and or among agrees allows skips starts anyOf emptyWithin firstWithin empty first canBegin productions17 implies every
+    firstClosed below
+firsts17 = refl
+
+empties17 : below (λ (c : ℕ). every (emptyClosed productions17 c) productions17) classes ≡ true
+unfolding and or among agrees allows skips anyOf emptyWithin empty canSkip productions17 implies every emptyClosed below
+empties17 = refl
+
+-- FOLLOW is closed
+follows17 : below (λ (c : ℕ). every (followClosed productions17 hints17 c) productions17) classes ≡ true
+unfolding and or among agrees allows skips starts anyOf emptyWithin firstWithin empty first productions17 implies every may flows
+    followClosed below hints17 follow
+follows17 = refl
+
+-- the alternatives exclude each other
+exclude17 : below (λ (c : ℕ). exclusive productions17 hints17 c productions17) classes ≡ true
+unfolding and or among agrees allows skips starts anyOf emptyWithin firstWithin empty first canBegin canSkip productions17 implies
+    every live asks opposed excludes exclusive below hints17 follow
+exclude17 = refl
+
+-- no left recursion
+falls17 : every (falls hints17 (suc (breadth productions17))) productions17 ≡ true
+unfolding and or among agrees breadth productions17 implies every noEnd vanishes needs bounded falls hints17 weightOf
+falls17 = refl
+
+start17 : bounded hints17 (suc (breadth productions17)) (whole program) ≡ true
+unfolding and or among breadth productions17 needs bounded hints17 weightOf
+start17 = refl
+
+-- at most two rows for each token
+few17 : every (fewRows hints17) productions17 ≡ true
+unfolding and levels productions17 every fewerOf moreOf fewRows hints17
+few17 = refl
+
+pub passes17 : Passes productions17 hints17 classes program
+unfolding hints17 follow among or
+passes17 = record {
+  closed = record { firsts = firsts17; empties = empties17; follows = follows17; exclude = exclude17 };
+  ended = refl;
+  falling = falls17;
+  start = start17;
+  few = few17;
+  once = omega arith }
+
+-- no nonterminal adds names, so that classes stay what they are
+pub steady17 : (ts : List Item) → Kinds ts → Steady (view language17 ts) hints17 classes
+unfolding view language17
+steady17 ts k = record {
+  classed = λ (e : Names) (i : ℕ). class-below e k i;
+  first-same = λ (x i : ℕ) (e : Names). refl;
+  follow-same = λ (x i : ℕ) (e : Names) (j : ℕ) h. refl }
