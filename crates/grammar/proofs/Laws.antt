@@ -13,4 +13,5 @@ pub mod Forests
 pub mod Readings
 pub mod Views
 pub mod Nurl
+pub mod Answers
 pub mod Examples

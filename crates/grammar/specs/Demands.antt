@@ -19,8 +19,8 @@ use Rattle.grammar.specs.Answers.{readTokens, Result}
 use Rattle.grammar.specs.declared.Answer.{Answer}
 use Rattle.grammar.specs.declared.Answer.the-variants.{Accepted, Refused}
 
--- for one source and one list of names, under a language and a level limit
-module _ (l : Language) (limit : ℕ) (source names : List ℕ) where
+-- for a language, a source and a list of names
+module _ (l : Language) (source names : List ℕ) where
   -- "A derivation of a token list", "under the type names of that source and list", nested at most n levels
   abbrev pub DerivationOf : List Token → ℕ → List Row → Type 0
   DerivationOf ts n rs =
@@ -34,8 +34,8 @@ module _ (l : Language) (limit : ℕ) (source names : List ℕ) where
     -- "tokens are clean when the source has nothing that No. 3 or 4 describes"
     pub scans : scan (l .lexical) source ≡ clean ts
 
-  -- and for two lent tables
-  module _ (tokens rows : List ℕ) where
+  -- and for a level limit and two lent tables
+  module _ (limit : ℕ) (tokens rows : List ℕ) where
     -- "There is room when the token table has at least as many whole rows as the source has tokens, and the tree table at least as
     -- many as each derivation of them within the level limit has rows."
     pub record Room (ts : List Token) : Type 0 where

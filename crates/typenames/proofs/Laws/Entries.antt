@@ -10,10 +10,11 @@ use lib.Dec.{eqb, ltb}
 use borrow.Author.Tests.{ltb-true, ltb-false}
 use lib.ListN.{length, take, drop, length-drop}
 use lib.Seq.{drop-drop, take-length, length-take-le}
+use Rattle.lexer.specs.Tests.{pick}
 use Rattle.lexer.specs.Bytes.{isInLine, run}
 use Rattle.lexer.specs.Editions.{Edition}
 use Rattle.lexer.proofs.Laws.Runs.{run-pass, run-stop, run-le}
-use Rattle.typenames.specs.NameList.{push, split, entries, isName, firstBad}
+use Rattle.typenames.specs.NameList.{nameLimit, push, split, entries, isName, firstBad, checked}
 use Rattle.typenames.specs.declared.Checked.the-variants.{Good, Refused}
 
 -- what a byte of a line tells
@@ -111,3 +112,23 @@ module _ (e : Edition) (list : List ℕ) (at : ℕ) where
       let l = length-drop at list in
       let below : lineLength < length d = omega arith in
       rw (split-more d below, n, length-take-le lineLength d (omega arith), drop-drop, ← add-one lineLength, ← add-assoc at lineLength 1)
+
+-- a refusal of a list is number 2
+module _ (e : Edition) where
+  bad-two : (at : ℕ) (ws : List (List ℕ)) (number place : ℕ) → firstBad e at ws ≡ Refused number place → number ≡ 2
+  unfolding firstBad
+  bad-two at [] number place h = let z : _≡_ {A = ℕ} 0 1 = cc in absurd (omega arith)
+  bad-two at (w ∷ ws) number place h = cases (isName e w) (bad-two (at + length w + 1) ws number place) h
+    where
+      cases : (t : Bool) → (firstBad e (at + length w + 1) ws ≡ Refused number place → number ≡ 2)
+          → pick t (firstBad e (at + length w + 1) ws) (Refused 2 at) ≡ Refused number place → number ≡ 2
+      cases true later h = later h
+      cases false later h = cc
+
+  pub checked-two : (list : List ℕ) (number place : ℕ) → checked e list ≡ Refused number place → number ≡ 2
+  unfolding checked
+  checked-two list number place h = cases (ltb nameLimit (length list)) h
+    where
+      cases : (t : Bool) → pick t (Refused 2 0) (firstBad e 0 (entries list)) ≡ Refused number place → number ≡ 2
+      cases true h = cc
+      cases false h = bad-two 0 (entries list) number place h

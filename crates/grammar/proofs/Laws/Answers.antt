@@ -1,0 +1,317 @@
+-- The answer has demands 1, 2 and 3, and whatever has them is the answer, for any language whose table passes the tests.
+-- Assumes nothing.
+use Prim.Native.Nat.{ℕ, zero, suc, _<_, _≤_}
+use mathlib.Core.Path.{_≡_, refl, sym, _∙_, subst, ap}
+use mathlib.Core.Bool.{Bool, true, false}
+use mathlib.Core.List.{List, [], _∷_}
+use mathlib.Core.Logic.{_⊎_, inl, inr}
+use native.Mathlib.Omega.{arith}
+use lib.Dec.{leb, ltb, eqb}
+use lib.ListN.{length}
+use borrow.Author.Tests.{ltb-true, ltb-false, leb-true, leb-false, lt-ltb, le-ltb, le-leb, lt-leb}
+use Rattle.lexer.specs.Tests.{pick}
+use Rattle.lexer.specs.Editions.{Edition}
+use Rattle.lexer.specs.Tokens.{Token, Scan, clean, fault, scan}
+use Rattle.lexer.specs.Table.{sourceLimit, tokenRoom, filled}
+use Rattle.lexer.proofs.Laws.Sizes.{spelled}
+use Rattle.lexer.proofs.Laws.Cover.{clean-cover}
+use Rattle.lexer.proofs.Laws.Places.{tokens-placed, fault-placed}
+use Rattle.typenames.specs.NameList.{entries, checked}
+use Rattle.typenames.specs.TypeNames.{Item, items, typeNames}
+use Rattle.typenames.proofs.Laws.Entries.{checked-two}
+use Rattle.typenames.specs.declared.Checked.{Checked}
+use Rattle.typenames.specs.declared.Checked.the-variants.{Good}
+use Rattle.grammar.specs.Grammars.{part}
+use Rattle.grammar.specs.Rows.{Row}
+use Rattle.grammar.specs.Derivations.{Derives, Derivation, derivation}
+use Rattle.grammar.specs.Reading.{Outcome, ok, stuck, deep, spent, reading}
+use Rattle.grammar.specs.Classes.{classes}
+use Rattle.grammar.specs.Languages.{Language, view}
+use Rattle.grammar.specs.TreeTable.{treeRoom, placed, cleared}
+use Rattle.grammar.specs.Answers.{readTokens, Verdict, before, after, accept, judged, scannedTokens, checkedNames, verdict}
+use Rattle.grammar.specs.Answers.{Result, result, answered}
+use Rattle.grammar.specs.Demands.{DerivationOf, Readable, Room, Refusal, too-long, bad-names, bad-byte, open-string}
+use Rattle.grammar.specs.Demands.{few-token-rows, no-program, too-deep, few-tree-rows, Acceptance, Demands}
+use Rattle.grammar.specs.declared.Answer.{Answer}
+use Rattle.grammar.specs.declared.Answer.the-variants.{Accepted, Refused}
+use Rattle.grammar.proofs.Laws.Checks.{Hints, Passes}
+use Rattle.grammar.proofs.Laws.Follow.{Steady}
+use Rattle.grammar.proofs.Laws.Readings.{Counted, reading-sound, reading-unspent, reading-complete, derivations-same}
+use Rattle.grammar.proofs.Laws.Readings.{stuck-none, deep-none}
+use Rattle.grammar.proofs.Laws.Views.{Kinds, items-length, items-kinds, view-counted}
+
+-- what is asked of a language
+pub record Fit (l : Language) : Type 0 where
+  pub marks : spelled (l .lexical .marks) ≡ true
+  pub hints : Hints
+  pub tests : Passes (l .productions) hints classes (l .start)
+  pub steady : (ts : List Item) → Kinds ts → Steady (view l ts) hints classes
+
+-- the tokens of a source under a list of names, in a language that is fit
+module _ (l : Language) (fit : Fit l) (source names : List ℕ) (ts : List Token) (scans : scan (l .lexical) source ≡ clean ts) where
+  kinds : Kinds (items source ts)
+  kinds = items-kinds (tokens-placed (l .lexical) (fit .marks) source ts scans)
+
+  counted : Counted (view l (items source ts)) (length ts)
+  counted = rw (← items-length source ts) (view-counted l (items source ts) kinds)
+
+  steady : Steady (view l (items source ts)) (fit .hints) classes
+  steady = fit .steady (items source ts) kinds
+
+  -- the theorems, of the reading of these tokens
+  read-sound : (n j said : ℕ) (rs : List Row) → readTokens l n source names ts ≡ ok j rs said → DerivationOf l source names ts n rs
+  unfolding readTokens
+  read-sound n j said rs r =
+      reading-sound (l .productions) (fit .hints) classes (l .start) (fit .tests) (view l (items source ts)) (length ts)
+      steady counted _ n j said rs r .1
+
+  read-unspent : (n : ℕ) → readTokens l n source names ts ≡ spent → ⊥
+  unfolding readTokens
+  read-unspent =
+      reading-unspent (l .productions) (fit .hints) classes (l .start) (fit .tests) (view l (items source ts)) (length ts) steady counted _
+
+  read-complete : (n said : ℕ) (rs : List Row)
+      → Derives (l .productions) (view l (items source ts)) (typeNames (l .opening) (entries names) (items source ts)) n (part (l .start) ∷ []) 0 (length ts) rs said
+      → readTokens l n source names ts ≡ ok (length ts) rs said
+  unfolding readTokens
+  read-complete =
+      reading-complete (l .productions) (fit .hints) classes (l .start) (fit .tests) (view l (items source ts)) (length ts) steady counted _
+
+  pub read-same : (n m : ℕ) (rs others : List Row) → DerivationOf l source names ts n rs → DerivationOf l source names ts m others
+      → rs ≡ others
+  read-same =
+      derivations-same (l .productions) (fit .hints) classes (l .start) (fit .tests) (view l (items source ts)) (length ts) steady counted _
+
+  pub read-stuck : (n i m : ℕ) (rs : List Row) → readTokens l n source names ts ≡ stuck i → DerivationOf l source names ts m rs → ⊥
+  unfolding readTokens
+  read-stuck =
+      stuck-none (l .productions) (fit .hints) classes (l .start) (fit .tests) (view l (items source ts)) (length ts) steady counted _
+
+  pub read-deep : (n i : ℕ) (rs : List Row) → readTokens l n source names ts ≡ deep i → DerivationOf l source names ts n rs → ⊥
+  unfolding readTokens
+  read-deep =
+      deep-none (l .productions) (fit .hints) classes (l .start) (fit .tests) (view l (items source ts)) (length ts) steady counted _
+
+-- what a verdict says, in the words of the demands
+module _ (l : Language) (source names : List ℕ) (limit : ℕ) (tokens rows : List ℕ) where
+  data Found : Verdict → Type 0 where
+    found-before : {number place : ℕ} → Refusal l source names limit tokens rows number place tokens rows → Found (before number place)
+    found-after : {number place : ℕ} {ts : List Token}
+        → Refusal l source names limit tokens rows number place (filled ts tokens) (cleared rows) → Found (after number place ts)
+    found-accept : {ts : List Token} {rs : List Row} → Readable l source names ts → length ts ≤ tokenRoom tokens
+        → length rs ≤ treeRoom rows → DerivationOf l source names ts limit rs → Found (accept ts rs)
+
+  module _ (fit : Fit l) where
+    -- No. 6 to 8
+    found-rows : (ts : List Token) (rs : List Row) → Readable l source names ts → length ts ≤ tokenRoom tokens
+        → DerivationOf l source names ts limit rs → (t : Bool) → leb (length rs) (treeRoom rows) ≡ t
+        → Found (pick t (accept ts rs) (after 8 (length rs) ts))
+    found-rows ts rs r room d true t = found-accept r room (leb-true (length rs) (treeRoom rows) t) d
+    found-rows ts rs r room d false t = found-after (few-tree-rows r room d (leb-false (length rs) (treeRoom rows) t))
+
+    found-judged : (ts : List Token) → Readable l source names ts → length ts ≤ tokenRoom tokens
+        → (o : Outcome) → readTokens l limit source names ts ≡ o → Found (judged (treeRoom rows) ts o)
+    unfolding judged
+    found-judged ts r room (ok j rs said) h =
+        found-rows ts rs r room (read-sound l fit source names ts (r .scans) limit j said rs h) (leb (length rs) (treeRoom rows)) refl
+    found-judged ts r room (stuck i) h = found-after (no-program r room h)
+    found-judged ts r room (deep i) h = found-after (too-deep r room h)
+    found-judged ts r room spent h = absurd (read-unspent l fit source names ts (r .scans) limit h)
+
+    -- No. 3 to 5
+    found-tokens : (ts : List Token) → Readable l source names ts → (t : Bool) → leb (length ts) (tokenRoom tokens) ≡ t
+        → Found (pick t (judged (treeRoom rows) ts (readTokens l limit source names ts)) (before 5 (length ts)))
+    found-tokens ts r true t = found-judged ts r (leb-true (length ts) (tokenRoom tokens) t) (readTokens l limit source names ts) refl
+    found-tokens ts r false t = found-before (few-token-rows r (leb-false (length ts) (tokenRoom tokens) t))
+
+    fault-by : {A B : Type 0} (number place : ℕ) → length source ≤ sourceLimit → checked (l .lexical) names ≡ Good
+        → scan (l .lexical) source ≡ fault number place → ((number ≡ 3) × A) ⊎ ((number ≡ 4) × B) → Found (before number place)
+    fault-by number place within good h (inl (three, b)) = rw three (found-before (bad-byte within good (rw three at h)))
+    fault-by number place within good h (inr (four, b)) = rw four (found-before (open-string within good (rw four at h)))
+
+    found-scan : length source ≤ sourceLimit → checked (l .lexical) names ≡ Good → (s : Scan) → scan (l .lexical) source ≡ s
+        → Found (scannedTokens l limit source names (tokenRoom tokens) (treeRoom rows) s)
+    unfolding scannedTokens
+    found-scan within good (fault number place) h =
+        fault-by number place within good h (fault-placed (l .lexical) (fit .marks) source number place h .reason)
+    found-scan within good (clean ts) h =
+        found-tokens ts (record { within = within; good = good; scans = h }) (leb (length ts) (tokenRoom tokens)) refl
+
+    -- No. 2
+    found-names : length source ≤ sourceLimit → (c : Checked) → checked (l .lexical) names ≡ c
+        → Found (checkedNames c (scannedTokens l limit source names (tokenRoom tokens) (treeRoom rows) (scan (l .lexical) source)))
+    unfolding checkedNames
+    found-names within Good h = found-scan within h (scan (l .lexical) source) refl
+    found-names within (Checked.Refused number place) h =
+        let two = checked-two (l .lexical) names number place h in
+        rw two (found-before (bad-names within (rw two at h)))
+
+    -- No. 1
+    found-by : (t : Bool) → ltb sourceLimit (length source) ≡ t
+        → Found (pick t (before 1 0) (checkedNames (checked (l .lexical) names)
+          (scannedTokens l limit source names (tokenRoom tokens) (treeRoom rows) (scan (l .lexical) source))))
+    found-by true t = found-before (too-long (ltb-true sourceLimit (length source) t))
+    found-by false t = found-names (ltb-false sourceLimit (length source) t) (checked (l .lexical) names) refl
+
+    found : Found (verdict l limit source names (tokenRoom tokens) (treeRoom rows))
+    unfolding verdict
+    found = found-by (ltb sourceLimit (length source)) refl
+
+    -- the other way: where the tokens are readable, the verdict is that of the reading
+    verdict-within : length source ≤ sourceLimit → verdict l limit source names (tokenRoom tokens) (treeRoom rows)
+        ≡ checkedNames (checked (l .lexical) names)
+          (scannedTokens l limit source names (tokenRoom tokens) (treeRoom rows) (scan (l .lexical) source))
+    unfolding verdict
+    verdict-within within = rw (le-ltb sourceLimit (length source) within)
+
+    verdict-good : length source ≤ sourceLimit → checked (l .lexical) names ≡ Good → (s : Scan) → scan (l .lexical) source ≡ s
+        → verdict l limit source names (tokenRoom tokens) (treeRoom rows)
+          ≡ scannedTokens l limit source names (tokenRoom tokens) (treeRoom rows) s
+    unfolding checkedNames
+    verdict-good within good s h = verdict-within within ∙ rw (good, h)
+
+    verdict-read : (ts : List Token) → Readable l source names ts → length ts ≤ tokenRoom tokens → (o : Outcome)
+        → readTokens l limit source names ts ≡ o
+        → verdict l limit source names (tokenRoom tokens) (treeRoom rows) ≡ judged (treeRoom rows) ts o
+    unfolding scannedTokens
+    verdict-read ts r room o h =
+        verdict-good (r .within) (r .good) (clean ts) (r .scans) ∙ rw (le-leb (length ts) (tokenRoom tokens) room, h)
+
+    verdict-derived : (ts : List Token) (rs : List Row) → Readable l source names ts → length ts ≤ tokenRoom tokens
+        → DerivationOf l source names ts limit rs
+        → verdict l limit source names (tokenRoom tokens) (treeRoom rows)
+          ≡ pick (leb (length rs) (treeRoom rows)) (accept ts rs) (after 8 (length rs) ts)
+    unfolding judged
+    verdict-derived ts rs r room (derivation {said = said} d) =
+        verdict-read ts r room (ok (length ts) rs said) (read-complete l fit source names ts (r .scans) limit said rs d)
+
+    -- a refusal of document 01's table is the verdict, and gives the tables that it says
+    refusal-result : (number place : ℕ) (tokensAfter rowsAfter : List ℕ)
+        → Refusal l source names limit tokens rows number place tokensAfter rowsAfter
+        → answered l limit source names tokens rows ≡ record { answer = Refused number place; tokens = tokensAfter; rows = rowsAfter }
+    unfolding answered result scannedTokens judged checkedNames verdict
+    refusal-result number place ta ra (too-long long) = rw (lt-ltb sourceLimit (length source) long)
+    refusal-result number place ta ra (bad-names within h) = rw (verdict-within within, h)
+    refusal-result number place ta ra (bad-byte within good h) = rw (verdict-good within good (fault 3 place) h)
+    refusal-result number place ta ra (open-string within good h) = rw (verdict-good within good (fault 4 place) h)
+    refusal-result number place ta ra (few-token-rows {ts = ts} r few) =
+        rw (verdict-good (r .within) (r .good) (clean ts) (r .scans), lt-leb (length ts) (tokenRoom tokens) few)
+    refusal-result number place ta ra (no-program {ts = ts} r room h) = rw (verdict-read ts r room (stuck place) h)
+    refusal-result number place ta ra (too-deep {ts = ts} r room h) = rw (verdict-read ts r room (deep place) h)
+    refusal-result number place ta ra (few-tree-rows {ts = ts} {rs = rs} r room d few) =
+        rw (verdict-derived ts rs r room d, lt-leb (length rs) (treeRoom rows) few)
+
+    accept-result : (ts : List Token) (rs : List Row) → Readable l source names ts → length ts ≤ tokenRoom tokens
+        → length rs ≤ treeRoom rows → DerivationOf l source names ts limit rs
+        → answered l limit source names tokens rows
+          ≡ record { answer = Accepted (length ts) (length rs); tokens = filled ts tokens; rows = placed rs rows }
+    unfolding answered result
+    accept-result ts rs r room space d = rw (verdict-derived ts rs r room d, le-leb (length rs) (treeRoom rows) space)
+
+    -- the tokens of a source are one list
+    readable-same : (ts us : List Token) → Readable l source names ts → Readable l source names us → ts ≡ us
+    readable-same ts us r k = let one = r .scans in let two = k .scans in cc
+
+    -- "no program" and "too deep"
+    six-none : (number place : ℕ) (ta ra : List ℕ) → Refusal l source names limit tokens rows number place ta ra → number ≡ 6
+        → (ts : List Token) → Readable l source names ts → (n : ℕ) (rs : List Row) → DerivationOf l source names ts n rs → ⊥
+    six-none number place ta ra (too-long long) six ts k n rs d = absurd (omega arith)
+    six-none number place ta ra (bad-names within h) six ts k n rs d = absurd (omega arith)
+    six-none number place ta ra (bad-byte within good h) six ts k n rs d = absurd (omega arith)
+    six-none number place ta ra (open-string within good h) six ts k n rs d = absurd (omega arith)
+    six-none number place ta ra (few-token-rows r few) six ts k n rs d = absurd (omega arith)
+    six-none number place ta ra (no-program {ts = us} r room h) six ts k n rs d =
+        read-stuck l fit source names us (r .scans) limit place n rs h
+        (subst (λ (vs : List Token). DerivationOf l source names vs n rs) (readable-same ts us k r) d)
+    six-none number place ta ra (too-deep r room h) six ts k n rs d = absurd (omega arith)
+    six-none number place ta ra (few-tree-rows r room e few) six ts k n rs d = absurd (omega arith)
+
+    seven-none : (number place : ℕ) (ta ra : List ℕ) → Refusal l source names limit tokens rows number place ta ra → number ≡ 7
+        → (ts : List Token) → Readable l source names ts → (rs : List Row) → DerivationOf l source names ts limit rs → ⊥
+    seven-none number place ta ra (too-long long) seven ts k rs d = absurd (omega arith)
+    seven-none number place ta ra (bad-names within h) seven ts k rs d = absurd (omega arith)
+    seven-none number place ta ra (bad-byte within good h) seven ts k rs d = absurd (omega arith)
+    seven-none number place ta ra (open-string within good h) seven ts k rs d = absurd (omega arith)
+    seven-none number place ta ra (few-token-rows r few) seven ts k rs d = absurd (omega arith)
+    seven-none number place ta ra (no-program r room h) seven ts k rs d = absurd (omega arith)
+    seven-none number place ta ra (too-deep {ts = us} r room h) seven ts k rs d =
+        read-deep l fit source names us (r .scans) limit place rs h
+        (subst (λ (vs : List Token). DerivationOf l source names vs limit rs) (readable-same ts us k r) d)
+    seven-none number place ta ra (few-tree-rows r room e few) seven ts k rs d = absurd (omega arith)
+
+    -- what a verdict's result says
+    refused-by : (w : Verdict) → Found w → (number place : ℕ) → result w tokens rows .answer ≡ Refused number place
+        → Refusal l source names limit tokens rows number place (result w tokens rows .tokens) (result w tokens rows .rows)
+    unfolding result
+    refused-by w (found-before {number = n} {place = p} r) number place h =
+        let same : n ≡ number = cc in
+        let at : p ≡ place = cc in
+        rw (← same, ← at) r
+    refused-by w (found-after {number = n} {place = p} r) number place h =
+        let same : n ≡ number = cc in
+        let at : p ≡ place = cc in
+        rw (← same, ← at) r
+    refused-by w (found-accept r room space d) number place h = let z : _≡_ {A = ℕ} 0 1 = cc in absurd (omega arith)
+
+    accepted-by : (w : Verdict) → Found w → (t n : ℕ) → result w tokens rows .answer ≡ Accepted t n
+        → Acceptance l source names limit tokens rows t n (result w tokens rows .tokens) (result w tokens rows .rows)
+    unfolding result
+    accepted-by w (found-before r) t n h = let z : _≡_ {A = ℕ} 0 1 = cc in absurd (omega arith)
+    accepted-by w (found-after r) t n h = let z : _≡_ {A = ℕ} 0 1 = cc in absurd (omega arith)
+    accepted-by w (found-accept {ts = ts} {rs = rs} r room space d) t n h = record {
+      token-list = ts;
+      row-list = rs;
+      readable = r;
+      room = record {
+        for-tokens = room;
+        for-rows = λ (others : List Row) (e : DerivationOf l source names ts limit others).
+          let same = read-same l fit source names ts (r .scans) limit limit others rs e d in
+          rw same space };
+      token-count = cc;
+      token-table = refl;
+      every-byte = clean-cover (l .lexical) (fit .marks) source ts (r .scans);
+      row-count = cc;
+      row-table = refl;
+      derived = d }
+
+    -- whatever derivation there is, where a source was accepted, is the one that was accepted
+    only-by : (t n : ℕ) (ta ra : List ℕ) → Acceptance l source names limit tokens rows t n ta ra → (ts : List Token)
+        → Readable l source names ts → (m : ℕ) (rs : List Row) → DerivationOf l source names ts m rs
+        → answered l limit source names tokens rows
+          ≡ record { answer = Accepted (length ts) (length rs); tokens = filled ts tokens; rows = placed rs rows }
+    only-by t n ta ra a ts k m rs d =
+        let tokens-same = readable-same (a .token-list) ts (a .readable) k in
+        let derived = subst (λ (us : List Token). DerivationOf l source names us limit (a .row-list)) tokens-same (a .derived) in
+        let rows-same = read-same l fit source names ts (k .scans) limit m (a .row-list) rs derived d in
+        let within = subst (λ (others : List Row). DerivationOf l source names ts limit others) rows-same derived in
+        accept-result ts rs k (subst (λ (us : List Token). length us ≤ tokenRoom tokens) tokens-same (a .room .for-tokens))
+        (subst (λ (others : List Row). length others ≤ treeRoom rows) rows-same (a .room .for-rows (a .row-list) (a .derived))) within
+
+    pub answered-demands : Demands l source names limit tokens rows (answered l limit source names tokens rows)
+    unfolding answered
+    answered-demands = record {
+      refused = refused-by (verdict l limit source names (tokenRoom tokens) (treeRoom rows)) found;
+      refusal = refusal-result;
+      accepted = accepted-by (verdict l limit source names (tokenRoom tokens) (treeRoom rows)) found;
+      accepts = λ (ts : List Token) (rs : List Row) (k : Readable l source names ts) (room : Room l source names limit tokens rows ts)
+        (d : DerivationOf l source names ts limit rs).
+        accept-result ts rs k (room .for-tokens) (room .for-rows rs d) d;
+      only = λ t n h. only-by t n _ _ (accepted-by (verdict l limit source names (tokenRoom tokens) (treeRoom rows)) found t n h);
+      no-derivation = λ place h.
+        six-none 6 place _ _ (refused-by (verdict l limit source names (tokenRoom tokens) (treeRoom rows)) found 6 place h) refl;
+      none-within = λ place h.
+        seven-none 7 place _ _ (refused-by (verdict l limit source names (tokenRoom tokens) (treeRoom rows)) found 7 place h) refl }
+
+    -- what has the demands is the answer
+    pub demands-answered : (r : Result) → Demands l source names limit tokens rows r → r ≡ answered l limit source names tokens rows
+    unfolding answered result
+    demands-answered r d = cases (verdict l limit source names (tokenRoom tokens) (treeRoom rows)) found
+      where
+        cases : (w : Verdict) → Found w → r ≡ result w tokens rows
+        cases w (found-before {number = number} {place = place} f) = d .refusal number place tokens rows f
+        cases w (found-after {number = number} {place = place} {ts = ts} f) = d .refusal number place (filled ts tokens) (cleared rows) f
+        cases w (found-accept {ts = ts} {rs = rs} k room space e) =
+            d .accepts ts rs k (record {
+              for-tokens = room;
+              for-rows = λ (others : List Row) (o : DerivationOf l source names ts limit others).
+                rw (read-same l fit source names ts (k .scans) limit limit others rs o e) space }) e
