@@ -13,5 +13,8 @@ pub mod Forests
 pub mod Readings
 pub mod Views
 pub mod Nurl
+pub mod Sources
 pub mod Answers
+pub mod Nurl17
 pub mod Examples
+pub mod Readers

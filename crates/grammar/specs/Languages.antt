@@ -25,7 +25,7 @@ pub record Language : Type 0 where
   pub adds : ℕ → List Item → Names
 
 -- grammar 1.7, document 009: no nonterminal adds names
-unfoldable pub language17 : Language
+abbrev pub language17 : Language
 language17 =
     record {
       lexical = edition17;

@@ -34,63 +34,8 @@ use Rattle.grammar.specs.Demands.{DerivationOf, Readable, Room, Refusal,
 use Rattle.grammar.specs.Demands.{few-token-rows, no-program, too-deep, few-tree-rows, Acceptance, Demands}
 use Rattle.grammar.specs.declared.Answer.{Answer}
 use Rattle.grammar.specs.declared.Answer.the-variants.{Accepted, Refused}
-use Rattle.grammar.proofs.Laws.Checks.{Hints, Passes}
-use Rattle.grammar.proofs.Laws.Follow.{Steady}
-use Rattle.grammar.proofs.Laws.Readings.{Counted, reading-sound, reading-unspent, reading-complete, derivations-same}
-use Rattle.grammar.proofs.Laws.Readings.{stuck-none, deep-none}
-use Rattle.grammar.proofs.Laws.Views.{Kinds, items-length, items-kinds, view-counted}
-
--- what is asked of a language
-pub record Fit (l : Language) : Type 0 where
-  pub marks : spelled (l .lexical .marks) ≡ true
-  pub hints : Hints
-  pub tests : Passes (l .productions) hints classes (l .start)
-  pub steady : (ts : List Item) → Kinds ts → Steady (view l ts) hints classes
-
--- the tokens of a source under a list of names, in a language that is fit
-module _ (l : Language) (fit : Fit l) (source names : List ℕ) (ts : List Token) (scans : scan (l .lexical) source ≡ clean ts) where
-  kinds : Kinds (items source ts)
-  kinds = items-kinds (tokens-placed (l .lexical) (fit .marks) source ts scans)
-
-  counted : Counted (view l (items source ts)) (length ts)
-  counted = rw (← items-length source ts) (view-counted l (items source ts) kinds)
-
-  steady : Steady (view l (items source ts)) (fit .hints) classes
-  steady = fit .steady (items source ts) kinds
-
-  -- the theorems, of the reading of these tokens
-  read-sound : (n j said : ℕ) (rs : List Row) → readTokens l n source names ts ≡ ok j rs said → DerivationOf l source names ts n rs
-  unfolding readTokens
-  read-sound n j said rs r =
-      reading-sound (l .productions) (fit .hints) classes (l .start) (fit .tests) (view l (items source ts)) (length ts)
-      steady counted _ n j said rs r .1
-
-  read-unspent : (n : ℕ) → readTokens l n source names ts ≡ spent → ⊥
-  unfolding readTokens
-  read-unspent =
-      reading-unspent (l .productions) (fit .hints) classes (l .start) (fit .tests) (view l (items source ts)) (length ts) steady counted _
-
-  read-complete : (n said : ℕ) (rs : List Row)
-      → Derives (l .productions) (view l (items source ts)) (typeNames (l .opening) (entries names) (items source ts)) n (part (l .start) ∷ []) 0 (length ts) rs said
-      → readTokens l n source names ts ≡ ok (length ts) rs said
-  unfolding readTokens
-  read-complete =
-      reading-complete (l .productions) (fit .hints) classes (l .start) (fit .tests) (view l (items source ts)) (length ts) steady counted _
-
-  pub read-same : (n m : ℕ) (rs others : List Row) → DerivationOf l source names ts n rs → DerivationOf l source names ts m others
-      → rs ≡ others
-  read-same =
-      derivations-same (l .productions) (fit .hints) classes (l .start) (fit .tests) (view l (items source ts)) (length ts) steady counted _
-
-  pub read-stuck : (n i m : ℕ) (rs : List Row) → readTokens l n source names ts ≡ stuck i → DerivationOf l source names ts m rs → ⊥
-  unfolding readTokens
-  read-stuck =
-      stuck-none (l .productions) (fit .hints) classes (l .start) (fit .tests) (view l (items source ts)) (length ts) steady counted _
-
-  pub read-deep : (n i : ℕ) (rs : List Row) → readTokens l n source names ts ≡ deep i → DerivationOf l source names ts n rs → ⊥
-  unfolding readTokens
-  read-deep =
-      deep-none (l .productions) (fit .hints) classes (l .start) (fit .tests) (view l (items source ts)) (length ts) steady counted _
+use Rattle.grammar.proofs.Laws.Sources.{Fit, ReadAs, read-as, read-sound, read-complete, read-same, read-stuck, read-deep}
+use Rattle.grammar.proofs.Laws.Sources.{read-unspent}
 
 -- what a verdict says, in the words of the demands
 module _ (l : Language) (source names : List ℕ) (limit : ℕ) (tokens rows : List ℕ) where
@@ -113,7 +58,7 @@ module _ (l : Language) (source names : List ℕ) (limit : ℕ) (tokens rows : L
         → (o : Outcome) → readTokens l limit source names ts ≡ o → Found (judged (treeRoom rows) ts o)
     unfolding judged
     found-judged ts r room (ok j rs said) h =
-        found-rows ts rs r room (read-sound l fit source names ts (r .scans) limit j said rs h) (leb (length rs) (treeRoom rows)) refl
+        found-rows ts rs r room (read-sound l fit source names ts (r .scans) limit j said rs h .1) (leb (length rs) (treeRoom rows)) refl
     found-judged ts r room (stuck i) h = found-after (no-program r room h)
     found-judged ts r room (deep i) h = found-after (too-deep r room h)
     found-judged ts r room spent h = absurd (read-unspent l fit source names ts (r .scans) limit h)
@@ -182,8 +127,11 @@ module _ (l : Language) (source names : List ℕ) (limit : ℕ) (tokens rows : L
         → verdict l limit source names (tokenRoom tokens) (treeRoom rows)
           ≡ pick (leb (length rs) (treeRoom rows)) (accept ts rs) (after 8 (length rs) ts)
     unfolding judged
-    verdict-derived ts rs r room (derivation {said = said} d) =
-        verdict-read ts r room (ok (length ts) rs said) (read-complete l fit source names ts (r .scans) limit said rs d)
+    verdict-derived ts rs r room d = cases (read-complete l fit source names ts (r .scans) limit rs d)
+      where
+        cases : ReadAs (readTokens l limit source names ts) (length ts) rs → verdict l limit source names (tokenRoom tokens) (treeRoom rows)
+            ≡ pick (leb (length rs) (treeRoom rows)) (accept ts rs) (after 8 (length rs) ts)
+        cases (read-as {said = said} h) = verdict-read ts r room (ok (length ts) rs said) h
 
     -- a refusal of document 01's table is the verdict, and gives the tables that it says
     refusal-result : (number place : ℕ) (tokensAfter rowsAfter : List ℕ)

@@ -24,7 +24,7 @@ unfoldable pub answersTo : Example → Result
 unfolding and or same asName sameName twoColons tokenRows filled scans push split entries isIdent isName firstBad checked itemOf
     items isNamed isOneOf enumName structName deeper namesAt declared typeNames among agrees asked met made passed firstSaid levels
     allows skips starts anyOf emptyWithin firstWithin empty first canBegin canSkip ready find orElse choice onward descend enter
-    joined readWithin breadth reading isText runOf fits fitsOne answerTo questions17 productions17 language17 classOf view treeRows
+    joined readWithin breadth reading isText runOf fits fitsOne answerTo questions17 productions17 classOf view treeRows
     placed cleared readTokens judged scannedTokens checkedNames verdict result answered lentTokens lentRows
 answersTo x = answered language17 levelLimit (x .source) (x .names) lentTokens lentRows
 

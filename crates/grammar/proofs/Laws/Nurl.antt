@@ -150,7 +150,7 @@ passes17 = record {
 
 -- no nonterminal adds names, so that classes stay what they are
 pub steady17 : (ts : List Item) → Kinds ts → Steady (view language17 ts) hints17 classes
-unfolding view language17
+unfolding view
 steady17 ts k = record {
   classed = λ (e : Names) (i : ℕ). class-below e k i;
   first-same = λ (x i : ℕ) (e : Names). refl;

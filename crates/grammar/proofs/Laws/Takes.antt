@@ -6,7 +6,7 @@ use native.Mathlib.Nat.{sub-self, sub-zero}
 use native.Mathlib.Omega.{arith}
 use Rattle.grammar.specs.Grammars.{Names, Production, Symbol, View}
 use Rattle.grammar.specs.Rows.{Row}
-use Rattle.grammar.specs.Derivations.{Derives, end, taken, held, entered}
+use Rattle.grammar.specs.Derivations.{Derives, end, taken, held, entered, Derivation, derivation}
 
 -- so many numbers from i on
 unfoldable pub from : ℕ → ℕ → List ℕ
@@ -63,3 +63,12 @@ module _ {g : List Production} {v : View} where
   pub takes-all : {e : Names} {n count said : ℕ} {ss : List Symbol} {rows : List Row}
       → (d : Derives g v e n ss 0 count rows said) → tokensTaken d ≡ from 0 count
   takes-all d = rw sub-zero at (takes-each d)
+
+  -- the tokens that a derivation of a token list takes, and that these are all of them, each once and in order
+  unfoldable pub allTaken : {e : Names} {n x count : ℕ} {rows : List Row} → Derivation g v count e n x rows → List ℕ
+  unfolding tokensTaken
+  allTaken (derivation d) = tokensTaken d
+
+  pub takes-once : {e : Names} {n x count : ℕ} {rows : List Row} → (d : Derivation g v count e n x rows) → allTaken d ≡ from 0 count
+  unfolding allTaken
+  takes-once (derivation d) = takes-all d
