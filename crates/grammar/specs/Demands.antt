@@ -16,7 +16,6 @@ use Rattle.grammar.specs.Reading.{stuck, deep}
 use Rattle.grammar.specs.Languages.{Language, view}
 use Rattle.grammar.specs.TreeTable.{treeRoom, placed, cleared}
 use Rattle.grammar.specs.Answers.{readTokens, Result}
-use Rattle.grammar.specs.declared.Answer.{Answer}
 use Rattle.grammar.specs.declared.Answer.the-variants.{Accepted, Refused}
 
 -- for a language, a source and a list of names
@@ -83,12 +82,14 @@ module _ (l : Language) (source names : List ℕ) where
       pub row-table : rowsAfter ≡ placed row-list rows
       pub derived : DerivationOf token-list limit row-list
 
-    -- The demands on the result r of a reader for this source, list and tables. What they rule out, of the readers that 01 names:
-    -- - one that refuses all falls to `accepts` (proved: `refuses-all-falls`);
-    -- - one that answers M1 for every source falls to `accepted`, by its token count (proved: `answers-M1-falls`);
-    -- - one that never writes falls to `accepted`, by `token-table` (proved: `never-writes-falls`);
-    -- - one that reads the first declaration and invents the others falls to `accepted`, by `derived`, and `only` fixes each row;
-    -- - one that reports invented row counts falls to `accepted` by `token-count`, and to `only` for the tree.
+    -- The demands on the result r of a reader for this source, list and tables. Of the readers that document 01 names,
+    -- - one that refuses all falls to `accepts` (`refuses-all-falls` in proofs/);
+    -- - one that answers M1 for every source falls to `accepted`, by its token count (`answers-M1-falls`);
+    -- - one that never writes falls to `accepted`, by the token table (`never-writes-falls`);
+    -- - one that reads the first declaration and invents the others falls to `accepted`, by `derived`, and `only` fixes each row
+    --   (`reads-first-falls`);
+    -- - one that reports invented row counts falls to `accepted` for the tokens and to `only` for the tree
+    --   (`invents-counts-falls`).
     pub record Demands (r : Result) : Type 0 where
       -- Demand 1: "A refusal carries its number and its place, and both lent tables are then left exactly as document 01's table
       -- says", and a refusal is "given exactly when" that table says.

@@ -3,7 +3,8 @@ use Prim.Native.Nat.{ℕ, suc, _+_}
 use mathlib.Core.Path.{_≡_}
 use mathlib.Core.Bool.{Bool, true}
 use mathlib.Core.List.{List, [], _∷_, _++_}
-use Rattle.grammar.specs.Grammars.{among, Condition, Symbol, token, part, condition, Production, Names, View, met}
+use Rattle.lexer.specs.Tests.{among}
+use Rattle.grammar.specs.Grammars.{Condition, Symbol, token, part, condition, Production, Names, View, met}
 use Rattle.grammar.specs.Rows.{Row, made, passed, firstSaid, levels}
 
 -- a production of a table
@@ -13,7 +14,8 @@ pub data Has : List Production → Production → Type 0 where
 
 -- `Derives g v e n ss i j rows said`: under the names e and with n levels left, the symbols ss derive the tokens from i up to
 -- but not with j; the rows of that are `rows`, parent first, and `said` is the kind it says for the row that it is a part of.
--- Any production of a nonterminal may be used, and nothing is asked of the tokens but what the symbols say.
+-- Any production of a nonterminal may be used, and nothing is asked of the tokens but what the symbols say. A nonterminal may
+-- have more names in force inside it than stand outside.
 pub data Derives (g : List Production) (v : View) : Names → ℕ → List Symbol → ℕ → ℕ → List Row → ℕ → Type 0 where
   end : {e : Names} {n i : ℕ} → Derives g v e n [] i i [] 0
   taken : {e : Names} {n i j said : ℕ} {cs : List ℕ} {ss : List Symbol} {rows : List Row}
@@ -30,6 +32,8 @@ pub data Derives (g : List Production) (v : View) : Names → ℕ → List Symbo
       → Derives g v e n ss j k rest later
       → Derives g v e n (part x ∷ ss) i k (made (p .gives) i j said inner ++ rest) (firstSaid (passed (p .gives) said) later)
 
--- A derivation of a token list of so many tokens, within n levels: "takes all the tokens". "At any depth" is: for some n.
+-- A derivation of a token list of so many tokens: it "takes all the tokens". It is nested at most n levels: "The program row is
+-- level 1, a child is its parent's level plus one", so that a row at level k is entered with n - k + 1 levels left. "At any depth"
+-- is: for some n.
 pub data Derivation (g : List Production) (v : View) (count : ℕ) (e : Names) (n x : ℕ) (rows : List Row) : Type 0 where
   derivation : {said : ℕ} → Derives g v e n (part x ∷ []) 0 count rows said → Derivation g v count e n x rows

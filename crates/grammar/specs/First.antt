@@ -4,8 +4,8 @@ use mathlib.Core.Bool.{Bool, true, false}
 use mathlib.Core.List.{List, [], _∷_}
 use lib.Dec.{eqb}
 use lib.ListN.{length}
-use Rattle.lexer.specs.Tests.{and, or}
-use Rattle.grammar.specs.Grammars.{among, Condition, next, query, Symbol, token, part, condition, Production, agrees}
+use Rattle.lexer.specs.Tests.{and, or, among}
+use Rattle.grammar.specs.Grammars.{Condition, next, query, Symbol, token, part, condition, Production, agrees}
 
 -- whether a condition can be met before a token of class c
 unfoldable pub allows : ℕ → Bool → Condition → Bool

@@ -1,18 +1,13 @@
 -- Grammars as data: conditions, symbols and productions, and what a grammar asks of some tokens.
 use Prim.Native.Nat.{ℕ}
 use mathlib.Core.Bool.{Bool, true, false}
-use mathlib.Core.List.{List, [], _∷_}
-use lib.Dec.{eqb}
-use Rattle.lexer.specs.Tests.{and, or}
+use mathlib.Core.List.{List}
+use Rattle.lexer.specs.Tests.{among}
 
 -- A class of tokens is a number: a token's kind, or a number of its own for tokens of one kind that the rules tell apart. Here is
 -- the class of the place after the last token.
 abbrev pub endOfTokens : ℕ
 endOfTokens = 0
-
-unfoldable pub among : List ℕ → ℕ → Bool
-among [] c = false
-among (k ∷ ks) c = or (eqb k c) (among ks c)
 
 -- a condition on the tokens from here on, which takes none of them
 pub data Condition : Type 0 where

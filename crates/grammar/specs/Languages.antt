@@ -33,7 +33,8 @@ language17 =
       start = program;
       questions = questions17;
       opening = leftBrace ∷ leftBracket ∷ [];
-      adds = λ x ts. [] }
+      adds = λ x ts. [];
+    }
 
 abbrev pub noItem : Item
 noItem = record { kind = 0; text = [] }
@@ -48,4 +49,5 @@ view l ts =
     record {
       class = λ e i. classOf e (getD ts i noItem);
       holds = λ q i. answerTo (l .questions) q (drop i ts);
-      inside = λ x i e. l .adds x (drop i ts) ++ e }
+      inside = λ x i e. l .adds x (drop i ts) ++ e;
+    }

@@ -1,14 +1,14 @@
--- The table of NURL, grammar 1.7: the productions of document 009 in its order, under rules 1 to 11 of document 01. Above each
+-- The table of NURL, grammar 1.7: the productions of document 009 under rules 1 to 11 of document 01, one a line. Above each
 -- group stands 009's production, and beside each condition the number of 01's rule. A repetition `x*` or an option `x?` of 009
--- is a nonterminal with two productions; productions that begin alike share a nonterminal which says the row's kind.
+-- is a nonterminal with two productions; productions that begin alike share a nonterminal that says the row's kind.
 use Prim.Native.Nat.{ℕ}
-use Prim.Native.String.{String}
 use mathlib.Core.List.{List, [], _∷_}
 use Rattle.lexer.specs.Text.{bytes}
 use Rattle.lexer.specs.Kinds.{ident, keyword, boolean, sizeof, int, string, dollar, ampersand, at, percent, colon, bar, equal, semicolon}
 use Rattle.lexer.specs.Kinds.{tilde, leftBrace, rightBrace, leftParen, rightParen, leftBracket, rightBracket, bang, caret, backslash}
 use Rattle.lexer.specs.Kinds.{question, dot, hash, star, questionQuestion, arrow}
-use Rattle.grammar.specs.Grammars.{Condition, next, query, Symbol, token, part, when, unless, Gives, row, rowOf, says, noRow, Production}
+use Rattle.grammar.specs.Grammars.{Condition, next, query, Symbol, token, part, when, unless, Gives, row, rowOf, says, noRow}
+use Rattle.grammar.specs.Grammars.{Production}
 use Rattle.grammar.specs.RowKinds.{programRow, importRow, foreignRow, traitRow, implRow, functionRow, structRow, enumRow}
 use Rattle.grammar.specs.RowKinds.{constantRow, headerRow, parameterRow, variantRow, listRow, blockRow, letRow, setNameRow}
 use Rattle.grammar.specs.RowKinds.{setElementRow, deferRow, whileRow, foreachRow, literalRow, nameRow, binaryRow, notRow}
@@ -32,8 +32,7 @@ mark kind = token (kind ∷ [])
 abbrev pub rule : ℕ → Gives → List Symbol → Production
 rule left gives right = record { left = left; gives = gives; right = right }
 
--- conditions on the next token
--- an IDENT that is not in N
+-- Conditions on the next token. First: it is an IDENT that is not in N.
 abbrev pub plainName : Condition
 plainName = next (ident ∷ [])
 
@@ -49,7 +48,7 @@ aBrace = next (leftBrace ∷ [])
 abbrev pub aStar : Condition
 aStar = next (star ∷ [])
 
--- questions about the tokens from here on; they ask kinds and never N
+-- Questions about the tokens from here on. They ask for kinds and texts, and never for N.
 abbrev pub opensNames : ℕ
 opensNames = 1
 
@@ -80,18 +79,14 @@ questions17 =
     -- rule 2: "`[` opens such a list where one is allowed and one or more such words run up to a `]`"
     asking opensNames ((a leftBracket ∷ some (ident ∷ boolean ∷ []) ∷ a rightBracket ∷ []) ∷ []) ∷
     asking opensWords ((a leftBracket ∷ some (ident ∷ boolean ∷ keyword ∷ []) ∷ a rightBracket ∷ []) ∷ []) ∷
-    -- after `:`, an IDENT and then `{` or a list make a struct, and anything else a constant
-    asking opensStruct (
-        (a ident ∷ a leftBrace ∷ []) ∷
-        (a ident ∷ a leftBracket ∷ some (ident ∷ boolean ∷ []) ∷ a rightBracket ∷ []) ∷ []) ∷
+    -- after `:`, an IDENT and then `{` or a list make a struct, and anything else a constant; no derivation is lost by it, for a
+    -- struct goes on so, and a constant, whose type would be that IDENT, goes on with another IDENT
+    asking opensStruct ((a ident ∷ a leftBrace ∷ []) ∷ (a ident ∷ a leftBracket ∷ some (ident ∷ boolean ∷ []) ∷ a rightBracket ∷ []) ∷ []) ∷
     -- rule 6: "two IDENTs make a foreach"
     asking twoNames ((a ident ∷ a ident ∷ []) ∷ []) ∷
     -- rule 7: "before `→`; or a keyword, `*`, `?`, `[` or `!`; or `(` `@`; or IDENT IDENT `→`"
-    asking opensClosure (
-        (a arrow ∷ []) ∷
-        (one (keyword ∷ star ∷ question ∷ leftBracket ∷ bang ∷ []) ∷ []) ∷
-        (a leftParen ∷ a at ∷ []) ∷
-        (a ident ∷ a ident ∷ a arrow ∷ []) ∷ []) ∷
+    asking opensClosure ((a arrow ∷ []) ∷ (one (keyword ∷ star ∷ question ∷ leftBracket ∷ bang ∷ []) ∷ []) ∷ (a leftParen ∷ a at ∷ []) ∷
+    (a ident ∷ a ident ∷ a arrow ∷ []) ∷ []) ∷
     -- rule 8: "a directly following INT whose text is `0` or `1`"
     asking zeroOrOne ((spelled int (bytes "0" ∷ bytes "1" ∷ []) ∷ []) ∷ []) ∷
     []
@@ -118,8 +113,7 @@ productions17 =
     rule moreNames noRow [] ∷
     -- fn_decl = '@' IDENT type_params? param* '→' type block
     rule declaration noRow (part function ∷ []) ∷
-    rule function (row functionRow)
-        (mark at ∷ token name ∷ part typeParameters ∷ part parameters ∷ mark arrow ∷ part type ∷ part block ∷ []) ∷
+    rule function (row functionRow) (mark at ∷ token name ∷ part typeParameters ∷ part parameters ∷ mark arrow ∷ part type ∷ part block ∷ []) ∷
     -- param = type IDENT
     rule parameters noRow (part parameter ∷ part parameters ∷ []) ∷
     rule parameters noRow [] ∷
@@ -127,8 +121,7 @@ productions17 =
     -- struct_decl, enum_decl and const_decl begin with ':'
     rule declaration rowOf (mark colon ∷ part definition ∷ []) ∷
     -- struct_decl = ':' IDENT type_params? '{' field* '}'
-    rule definition (says structRow)
-        (when (query opensStruct) ∷ token name ∷ part typeParameters ∷ mark leftBrace ∷ part fields ∷ mark rightBrace ∷ []) ∷
+    rule definition (says structRow) (when (query opensStruct) ∷ token name ∷ part typeParameters ∷ mark leftBrace ∷ part fields ∷ mark rightBrace ∷ []) ∷
     -- field = type IDENT?
     rule fields noRow (part field ∷ part fields ∷ []) ∷
     rule fields noRow [] ∷
@@ -144,8 +137,7 @@ productions17 =
     rule payloadTypes noRow (unless plainName {- rule 4 -} ∷ part type ∷ part payloadTypes ∷ []) ∷
     rule payloadTypes noRow [] ∷
     -- const_decl = ':' '~'? type IDENT literal
-    rule definition (says constantRow)
-        (unless (query opensStruct) ∷ part mutable ∷ part type ∷ token name ∷ part literal ∷ []) ∷
+    rule definition (says constantRow) (unless (query opensStruct) ∷ part mutable ∷ part type ∷ token name ∷ part literal ∷ []) ∷
     rule mutable noRow (mark tilde ∷ []) ∷
     rule mutable noRow [] ∷
     -- trait_decl = '%' IDENT type_params? '{' ( fn_header | fn_decl )* '}'
@@ -198,8 +190,7 @@ productions17 =
     -- try_expr = '\\' expr; closure_expr = '\\' param* '→' type block
     rule expression rowOf (mark backslash ∷ part tryOrClosure ∷ []) ∷
     rule tryOrClosure (says tryRow) (unless (query opensClosure) {- rule 7 -} ∷ part expression ∷ []) ∷
-    rule tryOrClosure (says closureRow)
-        (when (query opensClosure) {- rule 7 -} ∷ part parameters ∷ mark arrow ∷ part type ∷ part block ∷ []) ∷
+    rule tryOrClosure (says closureRow) (when (query opensClosure) {- rule 7 -} ∷ part parameters ∷ mark arrow ∷ part type ∷ part block ∷ []) ∷
     -- sizeof_expr = 'Z' type
     rule expression (row sizeofRow) (mark sizeof ∷ part type ∷ []) ∷
     -- cond_expr = '?' expr expr expr

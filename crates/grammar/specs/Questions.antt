@@ -1,13 +1,12 @@
 -- Questions about the tokens from a place on, as patterns of token kinds.
-use Prim.Native.Nat.{ℕ, zero, suc}
+use Prim.Native.Nat.{ℕ, suc}
 use mathlib.Core.Bool.{Bool, true, false}
 use mathlib.Core.List.{List, [], _∷_}
 use lib.Dec.{eqb, ltb}
 use lib.ListN.{drop}
-use Rattle.lexer.specs.Tests.{and, or, pick}
+use Rattle.lexer.specs.Tests.{and, or, pick, among}
 use Rattle.lexer.specs.Spellings.{same}
 use Rattle.typenames.specs.TypeNames.{Item}
-use Rattle.grammar.specs.Grammars.{among}
 
 pub data Piece : Type 0 where
   -- a token of one of these kinds

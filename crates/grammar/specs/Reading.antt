@@ -1,12 +1,12 @@
 -- The leftmost reading: from the first token on, always the production that the next token can begin, else the one that may
 -- derive no token.
 use Prim.Native.Nat.{ℕ, zero, suc, _+_, _*_}
-use mathlib.Core.Bool.{Bool, true, false}
+use mathlib.Core.Bool.{Bool, true}
 use mathlib.Core.List.{List, [], _∷_, _++_}
 use lib.Dec.{eqb}
 use lib.ListN.{length}
-use Rattle.lexer.specs.Tests.{and, pick}
-use Rattle.grammar.specs.Grammars.{endOfTokens, among, next, Symbol, token, part, condition, when, Gives}
+use Rattle.lexer.specs.Tests.{and, pick, among}
+use Rattle.grammar.specs.Grammars.{endOfTokens, next, Symbol, token, part, condition, when, Gives}
 use Rattle.grammar.specs.Grammars.{Production, Names, View, met}
 use Rattle.grammar.specs.Rows.{Row, made, passed, firstSaid, levels}
 use Rattle.grammar.specs.First.{canBegin, canSkip}

@@ -1,6 +1,6 @@
 -- The rows of a tree: "parent first, children left to right".
 use Prim.Native.Nat.{ℕ, zero, suc, _-_}
-use mathlib.Core.List.{List, [], _∷_}
+use mathlib.Core.List.{List, _∷_}
 use lib.ListN.{length}
 use Rattle.grammar.specs.Grammars.{Gives, row, rowOf, says, noRow}
 

@@ -1,5 +1,5 @@
 -- The tree table: its rows, and what it holds when rows are put into it or when it is cleared.
-use Prim.Native.Nat.{ℕ, zero, suc, _*_, _/_}
+use Prim.Native.Nat.{ℕ, _*_, _/_}
 use mathlib.Core.List.{List, [], _∷_, _++_}
 use lib.ListN.{length, drop, replicate}
 use Rattle.grammar.specs.Rows.{Row}

@@ -1,7 +1,8 @@
 -- Tests and choices by a test, which the definitions of this crate are written with.
 use mathlib.Core.Bool.{Bool, true, false}
+use mathlib.Core.List.{List, [], _∷_}
 use Prim.Native.Nat.{ℕ}
-use lib.Dec.{leb}
+use lib.Dec.{eqb, leb}
 
 unfoldable pub and : Bool → Bool → Bool
 and true b = b
@@ -19,3 +20,8 @@ pick false a b = b
 unfoldable pub between : ℕ → ℕ → ℕ → Bool
 unfolding and
 between low high n = and (leb low n) (leb n high)
+
+-- whether a number is one of some numbers
+unfoldable pub among : List ℕ → ℕ → Bool
+among [] n = false
+among (k ∷ ks) n = or (eqb k n) (among ks n)

@@ -4,7 +4,7 @@ use mathlib.Core.Bool.{Bool, false}
 use mathlib.Core.List.{List, [], _∷_, _++_}
 use lib.Dec.{eqb}
 use lib.ListN.{take, drop}
-use Rattle.lexer.specs.Tests.{and, or, pick}
+use Rattle.lexer.specs.Tests.{and, or, pick, among}
 use Rattle.lexer.specs.Kinds.{ident, colon, bar, leftBrace, rightBrace}
 use Rattle.lexer.specs.Words.{sameName}
 use Rattle.lexer.specs.Tokens.{Token}
@@ -27,11 +27,6 @@ unfoldable pub isNamed : List (List ℕ) → List ℕ → Bool
 isNamed [] w = false
 isNamed (n ∷ ns) w = or (sameName n w) (isNamed ns w)
 
--- whether a kind is one of some kinds
-unfoldable pub isOneOf : List ℕ → ℕ → Bool
-isOneOf [] k = false
-isOneOf (m ∷ ms) k = or (eqb m k) (isOneOf ms k)
-
 -- the third of three tokens, where they are `:` `|` IDENT
 unfoldable pub enumName : Item → Item → Item → List (List ℕ)
 enumName a b c =
@@ -40,7 +35,7 @@ enumName a b c =
 -- the second of three tokens, where they are `:` IDENT and one of the kinds that open a struct
 unfoldable pub structName : List ℕ → Item → Item → Item → List (List ℕ)
 structName opening a b c =
-    pick (and (eqb (a .kind) colon) (and (eqb (b .kind) ident) (isOneOf opening (c .kind)))) (b .text ∷ []) []
+    pick (and (eqb (a .kind) colon) (and (eqb (b .kind) ident) (among opening (c .kind)))) (b .text ∷ []) []
 
 -- "Depth counts `{` and `}` tokens and does not go below zero": the depth after a token
 unfoldable pub deeper : ℕ → ℕ → ℕ

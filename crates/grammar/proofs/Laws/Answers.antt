@@ -1,38 +1,31 @@
 -- The answer has demands 1, 2 and 3, and whatever has them is the answer, for any language whose table passes the tests.
 -- Assumes nothing.
-use Prim.Native.Nat.{ℕ, zero, suc, _<_, _≤_}
-use mathlib.Core.Path.{_≡_, refl, sym, _∙_, subst, ap}
+use Prim.Native.Nat.{ℕ, _≤_}
+use mathlib.Core.Path.{_≡_, refl, _∙_, subst}
 use mathlib.Core.Bool.{Bool, true, false}
-use mathlib.Core.List.{List, [], _∷_}
+use mathlib.Core.List.{List}
 use mathlib.Core.Logic.{_⊎_, inl, inr}
 use native.Mathlib.Omega.{arith}
-use lib.Dec.{leb, ltb, eqb}
+use lib.Dec.{leb, ltb}
 use lib.ListN.{length}
 use borrow.Author.Tests.{ltb-true, ltb-false, leb-true, leb-false, lt-ltb, le-ltb, le-leb, lt-leb}
 use Rattle.lexer.specs.Tests.{pick}
-use Rattle.lexer.specs.Editions.{Edition}
 use Rattle.lexer.specs.Tokens.{Token, Scan, clean, fault, scan}
 use Rattle.lexer.specs.Table.{sourceLimit, tokenRoom, filled}
-use Rattle.lexer.proofs.Laws.Sizes.{spelled}
 use Rattle.lexer.proofs.Laws.Cover.{clean-cover}
-use Rattle.lexer.proofs.Laws.Places.{tokens-placed, fault-placed}
-use Rattle.typenames.specs.NameList.{entries, checked}
-use Rattle.typenames.specs.TypeNames.{Item, items, typeNames}
+use Rattle.lexer.proofs.Laws.Places.{fault-placed}
+use Rattle.typenames.specs.NameList.{checked}
 use Rattle.typenames.proofs.Laws.Entries.{checked-two}
 use Rattle.typenames.specs.declared.Checked.{Checked}
 use Rattle.typenames.specs.declared.Checked.the-variants.{Good}
-use Rattle.grammar.specs.Grammars.{part}
 use Rattle.grammar.specs.Rows.{Row}
-use Rattle.grammar.specs.Derivations.{Derives, Derivation, derivation}
-use Rattle.grammar.specs.Reading.{Outcome, ok, stuck, deep, spent, reading}
-use Rattle.grammar.specs.Classes.{classes}
-use Rattle.grammar.specs.Languages.{Language, view}
+use Rattle.grammar.specs.Reading.{Outcome, ok, stuck, deep, spent}
+use Rattle.grammar.specs.Languages.{Language}
 use Rattle.grammar.specs.TreeTable.{treeRoom, placed, cleared}
 use Rattle.grammar.specs.Answers.{readTokens, Verdict, before, after, accept, judged, scannedTokens, checkedNames, verdict}
 use Rattle.grammar.specs.Answers.{Result, result, answered}
 use Rattle.grammar.specs.Demands.{DerivationOf, Readable, Room, Refusal, too-long, bad-names, bad-byte, open-string}
 use Rattle.grammar.specs.Demands.{few-token-rows, no-program, too-deep, few-tree-rows, Acceptance, Demands}
-use Rattle.grammar.specs.declared.Answer.{Answer}
 use Rattle.grammar.specs.declared.Answer.the-variants.{Accepted, Refused}
 use Rattle.grammar.proofs.Laws.Sources.{Fit, ReadAs, read-as, read-sound, read-complete, read-same, read-stuck, read-deep}
 use Rattle.grammar.proofs.Laws.Sources.{read-unspent}
@@ -94,7 +87,7 @@ module _ (l : Language) (source names : List ℕ) (limit : ℕ) (tokens rows : L
     -- No. 1
     found-by : (t : Bool) → ltb sourceLimit (length source) ≡ t
         → Found (pick t (before 1 0) (checkedNames (checked (l .lexical) names)
-          (scannedTokens l limit source names (tokenRoom tokens) (treeRoom rows) (scan (l .lexical) source))))
+        (scannedTokens l limit source names (tokenRoom tokens) (treeRoom rows) (scan (l .lexical) source))))
     found-by true t = found-before (too-long (ltb-true sourceLimit (length source) t))
     found-by false t = found-names (ltb-false sourceLimit (length source) t) (checked (l .lexical) names) refl
 
@@ -105,13 +98,13 @@ module _ (l : Language) (source names : List ℕ) (limit : ℕ) (tokens rows : L
     -- the other way: where the tokens are readable, the verdict is that of the reading
     verdict-within : length source ≤ sourceLimit → verdict l limit source names (tokenRoom tokens) (treeRoom rows)
         ≡ checkedNames (checked (l .lexical) names)
-          (scannedTokens l limit source names (tokenRoom tokens) (treeRoom rows) (scan (l .lexical) source))
+        (scannedTokens l limit source names (tokenRoom tokens) (treeRoom rows) (scan (l .lexical) source))
     unfolding verdict
     verdict-within within = rw (le-ltb sourceLimit (length source) within)
 
     verdict-good : length source ≤ sourceLimit → checked (l .lexical) names ≡ Good → (s : Scan) → scan (l .lexical) source ≡ s
         → verdict l limit source names (tokenRoom tokens) (treeRoom rows)
-          ≡ scannedTokens l limit source names (tokenRoom tokens) (treeRoom rows) s
+        ≡ scannedTokens l limit source names (tokenRoom tokens) (treeRoom rows) s
     unfolding checkedNames
     verdict-good within good s h = verdict-within within ∙ rw (good, h)
 
@@ -125,7 +118,7 @@ module _ (l : Language) (source names : List ℕ) (limit : ℕ) (tokens rows : L
     verdict-derived : (ts : List Token) (rs : List Row) → Readable l source names ts → length ts ≤ tokenRoom tokens
         → DerivationOf l source names ts limit rs
         → verdict l limit source names (tokenRoom tokens) (treeRoom rows)
-          ≡ pick (leb (length rs) (treeRoom rows)) (accept ts rs) (after 8 (length rs) ts)
+        ≡ pick (leb (length rs) (treeRoom rows)) (accept ts rs) (after 8 (length rs) ts)
     unfolding judged
     verdict-derived ts rs r room d = cases (read-complete l fit source names ts (r .scans) limit rs d)
       where
@@ -152,7 +145,7 @@ module _ (l : Language) (source names : List ℕ) (limit : ℕ) (tokens rows : L
     accept-result : (ts : List Token) (rs : List Row) → Readable l source names ts → length ts ≤ tokenRoom tokens
         → length rs ≤ treeRoom rows → DerivationOf l source names ts limit rs
         → answered l limit source names tokens rows
-          ≡ record { answer = Accepted (length ts) (length rs); tokens = filled ts tokens; rows = placed rs rows }
+        ≡ record { answer = Accepted (length ts) (length rs); tokens = filled ts tokens; rows = placed rs rows }
     unfolding answered result
     accept-result ts rs r room space d = rw (verdict-derived ts rs r room d, le-leb (length rs) (treeRoom rows) space)
 
@@ -213,20 +206,22 @@ module _ (l : Language) (source names : List ℕ) (limit : ℕ) (tokens rows : L
       room = record {
         for-tokens = room;
         for-rows = λ (others : List Row) (e : DerivationOf l source names ts limit others).
-          let same = read-same l fit source names ts (r .scans) limit limit others rs e d in
-          rw same space };
+            let same = read-same l fit source names ts (r .scans) limit limit others rs e d in
+            rw same space;
+      };
       token-count = cc;
       token-table = refl;
       every-byte = clean-cover (l .lexical) (fit .marks) source ts (r .scans);
       row-count = cc;
       row-table = refl;
-      derived = d }
+      derived = d;
+    }
 
     -- whatever derivation there is, where a source was accepted, is the one that was accepted
     only-by : (t n : ℕ) (ta ra : List ℕ) → Acceptance l source names limit tokens rows t n ta ra → (ts : List Token)
         → Readable l source names ts → (m : ℕ) (rs : List Row) → DerivationOf l source names ts m rs
         → answered l limit source names tokens rows
-          ≡ record { answer = Accepted (length ts) (length rs); tokens = filled ts tokens; rows = placed rs rows }
+        ≡ record { answer = Accepted (length ts) (length rs); tokens = filled ts tokens; rows = placed rs rows }
     only-by t n ta ra a ts k m rs d =
         let tokens-same = readable-same (a .token-list) ts (a .readable) k in
         let derived = subst (λ (us : List Token). DerivationOf l source names us limit (a .row-list)) tokens-same (a .derived) in
@@ -242,13 +237,14 @@ module _ (l : Language) (source names : List ℕ) (limit : ℕ) (tokens rows : L
       refusal = refusal-result;
       accepted = accepted-by (verdict l limit source names (tokenRoom tokens) (treeRoom rows)) found;
       accepts = λ (ts : List Token) (rs : List Row) (k : Readable l source names ts) (room : Room l source names limit tokens rows ts)
-        (d : DerivationOf l source names ts limit rs).
-        accept-result ts rs k (room .for-tokens) (room .for-rows rs d) d;
+          (d : DerivationOf l source names ts limit rs).
+          accept-result ts rs k (room .for-tokens) (room .for-rows rs d) d;
       only = λ t n h. only-by t n _ _ (accepted-by (verdict l limit source names (tokenRoom tokens) (treeRoom rows)) found t n h);
       no-derivation = λ place h.
-        six-none 6 place _ _ (refused-by (verdict l limit source names (tokenRoom tokens) (treeRoom rows)) found 6 place h) refl;
+          six-none 6 place _ _ (refused-by (verdict l limit source names (tokenRoom tokens) (treeRoom rows)) found 6 place h) refl;
       none-within = λ place h.
-        seven-none 7 place _ _ (refused-by (verdict l limit source names (tokenRoom tokens) (treeRoom rows)) found 7 place h) refl }
+          seven-none 7 place _ _ (refused-by (verdict l limit source names (tokenRoom tokens) (treeRoom rows)) found 7 place h) refl;
+    }
 
     -- what has the demands is the answer
     pub demands-answered : (r : Result) → Demands l source names limit tokens rows r → r ≡ answered l limit source names tokens rows
@@ -262,4 +258,5 @@ module _ (l : Language) (source names : List ℕ) (limit : ℕ) (tokens rows : L
             d .accepts ts rs k (record {
               for-tokens = room;
               for-rows = λ (others : List Row) (o : DerivationOf l source names ts limit others).
-                rw (read-same l fit source names ts (k .scans) limit limit others rs o e) space }) e
+                  rw (read-same l fit source names ts (k .scans) limit limit others rs o e) space;
+            }) e

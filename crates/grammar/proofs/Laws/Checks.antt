@@ -6,8 +6,8 @@ use mathlib.Core.Path.{_≡_}
 use mathlib.Core.Bool.{Bool, true, false}
 use mathlib.Core.List.{List, [], _∷_}
 use lib.Dec.{eqb, leb}
-use Rattle.lexer.specs.Tests.{and, or, pick}
-use Rattle.grammar.specs.Grammars.{endOfTokens, among, Condition, next, query, Symbol, token, part, condition, Production, agrees}
+use Rattle.lexer.specs.Tests.{and, or, pick, among}
+use Rattle.grammar.specs.Grammars.{endOfTokens, next, query, Symbol, token, part, condition, Production, agrees}
 use Rattle.grammar.specs.Rows.{levels}
 use Rattle.grammar.specs.Reading.{breadth, whole}
 use Rattle.grammar.specs.First.{skips, starts, empty, first, canBegin, canSkip}

@@ -1,16 +1,16 @@
 -- Which production a reading takes: one of the table, and where the tests of the table pass, the one that a derivation uses.
 -- Assumes nothing.
-use Prim.Native.Nat.{ℕ, zero}
+use Prim.Native.Nat.{ℕ}
 use mathlib.Core.Path.{_≡_, refl, _∙_, sym, subst, ap}
 use mathlib.Core.Bool.{Bool, true, false}
 use mathlib.Core.List.{List, [], _∷_}
 use native.Mathlib.Omega.{arith}
 use lib.Dec.{eqb}
 use borrow.Author.Tests.{eqb-true, eq-eqb}
-use Rattle.lexer.specs.Tests.{and, or, pick}
+use Rattle.lexer.specs.Tests.{and, or, pick, among}
 use Rattle.lexer.proofs.Laws.Tests.{and-left, and-right, or-else, or-left, or-right}
-use Rattle.grammar.specs.Grammars.{Condition, next, query, Symbol, token, part, condition, Production, Names, View}
-use Rattle.grammar.specs.Grammars.{among, agrees, asked, met}
+use Rattle.grammar.specs.Grammars.{next, query, Symbol, token, part, condition, Production, Names, View}
+use Rattle.grammar.specs.Grammars.{agrees, asked, met}
 use Rattle.grammar.specs.Derivations.{Has, here, there}
 use Rattle.grammar.specs.First.{canBegin, canSkip}
 use Rattle.grammar.specs.Reading.{ready, Choice, none, one, find, orElse, choice}
@@ -78,8 +78,8 @@ module _ (v : View) (e : Names) (i : ℕ) where
   asks-met b q (condition a (query k) ∷ ss) h r =
       or-else (and (eqb q k) (agrees b a)) (asks b q ss)
       (λ (s : and (eqb q k) (agrees b a) ≡ true).
-        let same = eqb-true q k (and-left (eqb q k) (agrees b a) s) in
-        rw same (agrees-same a b (v .holds k i) (and-right (eqb q k) (agrees b a) s) (and-left (agrees a (v .holds k i)) (ready v e i ss) r)))
+      let same = eqb-true q k (and-left (eqb q k) (agrees b a) s) in
+      rw same (agrees-same a b (v .holds k i) (and-right (eqb q k) (agrees b a) s) (and-left (agrees a (v .holds k i)) (ready v e i ss) r)))
       (λ (s : asks b q ss ≡ true). asks-met b q ss s (and-right (agrees a (v .holds k i)) (ready v e i ss) r))
       h
 
@@ -93,7 +93,7 @@ module _ (v : View) (e : Names) (i : ℕ) where
   opposed-apart (condition b (query q) ∷ ss) ts h r k =
       or-else (asks (agrees b false) q ts) (opposed ss ts)
       (λ (s : asks (agrees b false) q ts ≡ true).
-        agrees-not b (v .holds q i) (and-left (agrees b (v .holds q i)) (ready v e i ss) r) (asks-met (agrees b false) q ts s k))
+      agrees-not b (v .holds q i) (and-left (agrees b (v .holds q i)) (ready v e i ss) r) (asks-met (agrees b false) q ts s k))
       (λ (s : opposed ss ts ≡ true). opposed-apart ss ts s (and-right (agrees b (v .holds q i)) (ready v e i ss) r) k)
       h
 
@@ -169,16 +169,16 @@ module _ (g : List Production) (h : Hints) (v : View) (e : Names) (x i : ℕ) (o
   unfolding choice live orElse or
   choice-by p has lp ap rp true s =
       let begin = sole g h (v .class e i) v e i x (canBegin g (v .class e i))
-        (λ (q : Production) (l : q .left ≡ x) (t : canBegin g (v .class e i) q ≡ true). or-left _ _ t) g p out has lp ap rp in
+      (λ (q : Production) (l : q .left ≡ x) (t : canBegin g (v .class e i) q ≡ true). or-left _ _ t) g p out has lp ap rp in
       rw (begin, s)
   choice-by p has lp ap rp false s =
       let begin = sole g h (v .class e i) v e i x (canBegin g (v .class e i))
-        (λ (q : Production) (l : q .left ≡ x) (t : canBegin g (v .class e i) q ≡ true). or-left _ _ t) g p out has lp ap rp in
+      (λ (q : Production) (l : q .left ≡ x) (t : canBegin g (v .class e i) q ≡ true). or-left _ _ t) g p out has lp ap rp in
       let both : and (canSkip g (v .class e i) p) (h .follow (p .left) (v .class e i)) ≡ true = rw s at ap in
       let after = and-right (canSkip g (v .class e i) p) (h .follow (p .left) (v .class e i)) both in
       let skip = sole g h (v .class e i) v e i x (canSkip g (v .class e i))
-        (λ (q : Production) (l : q .left ≡ x) (t : canSkip g (v .class e i) q ≡ true).
-          or-right (canBegin g (v .class e i) q) _ (and-both _ _ t (rw (l, ← lp) after))) g p out has lp ap rp in
+      (λ (q : Production) (l : q .left ≡ x) (t : canSkip g (v .class e i) q ≡ true).
+      or-right (canBegin g (v .class e i) q) _ (and-both _ _ t (rw (l, ← lp) after))) g p out has lp ap rp in
       rw (begin, s, skip, and-left (canSkip g (v .class e i) p) _ both)
 
   pub choice-is : (p : Production) → Has g p → p .left ≡ x → live g h (v .class e i) p ≡ true → ready v e i (p .right) ≡ true

@@ -1,17 +1,16 @@
 -- Complete: what symbols derive from some tokens is what the reading gives, with exactly those rows, for a table that passes the
 -- tests. Assumes nothing.
-use Prim.Native.Nat.{ℕ, zero, suc, _+_, _<_}
-use mathlib.Core.Path.{_≡_, refl, sym, _∙_, subst}
-use mathlib.Core.Bool.{Bool, true, false}
-use mathlib.Core.List.{List, [], _∷_}
-use native.Mathlib.Nat.{zero-add, suc-add}
+use Prim.Native.Nat.{ℕ, zero, suc, _+_}
+use mathlib.Core.Path.{_≡_, refl}
+use mathlib.Core.Bool.{Bool, true}
+use mathlib.Core.List.{List}
+use native.Mathlib.Nat.{zero-add}
 use native.Mathlib.Omega.{arith}
-use Rattle.lexer.specs.Tests.{pick}
 use Rattle.grammar.specs.Grammars.{Symbol, token, part, condition, Production, Names, View}
 use Rattle.grammar.specs.Rows.{Row, levels}
 use Rattle.grammar.specs.Derivations.{Has, Derives, end, taken, held, entered}
 use Rattle.grammar.specs.First.{canBegin, canSkip}
-use Rattle.grammar.specs.Reading.{Outcome, ok, stuck, deep, spent, one, choice, onward, descend, enter, joined, readWithin}
+use Rattle.grammar.specs.Reading.{Outcome, ok, spent, one, choice, onward, descend, enter, joined, readWithin}
 use Rattle.grammar.proofs.Laws.Checks.{Hints, may, live, Closed}
 use Rattle.grammar.proofs.Laws.Choices.{choice-is}
 use Rattle.grammar.proofs.Laws.Follow.{Steady, passed-at, derives-ready, Flows, flows-rest, flows-right, may-begin, part-followed}

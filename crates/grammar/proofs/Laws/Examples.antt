@@ -1,14 +1,14 @@
 -- The bench examples hold of the answer's definition: one claim, by computation. Assumes nothing.
 use mathlib.Core.Path.{_≡_, refl}
 use mathlib.Core.List.{map}
-use Rattle.lexer.specs.Tests.{and, or}
+use Rattle.lexer.specs.Tests.{and, or, among}
 use Rattle.lexer.specs.Spellings.{same}
 use Rattle.lexer.specs.Words.{asName, sameName, twoColons}
 use Rattle.lexer.specs.Table.{tokenRows, filled}
 use Rattle.lexer.proofs.Laws.Examples.{scans}
 use Rattle.typenames.specs.NameList.{push, split, entries, isIdent, isName, firstBad, checked}
-use Rattle.typenames.specs.TypeNames.{itemOf, items, isNamed, isOneOf, enumName, structName, deeper, namesAt, declared, typeNames}
-use Rattle.grammar.specs.Grammars.{among, agrees, asked, met}
+use Rattle.typenames.specs.TypeNames.{itemOf, items, isNamed, enumName, structName, deeper, namesAt, declared, typeNames}
+use Rattle.grammar.specs.Grammars.{agrees, asked, met}
 use Rattle.grammar.specs.Rows.{made, passed, firstSaid, levels}
 use Rattle.grammar.specs.First.{allows, skips, starts, anyOf, emptyWithin, firstWithin, empty, first, canBegin, canSkip}
 use Rattle.grammar.specs.Reading.{ready, find, orElse, choice, onward, descend, enter, joined, readWithin, breadth, reading}
@@ -22,7 +22,7 @@ use Rattle.grammar.specs.Examples.{lentTokens, lentRows, Example, result
 -- the answer, opened down to its parts: whoever computes with it unfolds this one name
 unfoldable pub answersTo : Example → Result
 unfolding and or same asName sameName twoColons tokenRows filled scans push split entries isIdent isName firstBad checked itemOf
-    items isNamed isOneOf enumName structName deeper namesAt declared typeNames among agrees asked met made passed firstSaid levels
+    items isNamed enumName structName deeper namesAt declared typeNames among agrees asked met made passed firstSaid levels
     allows skips starts anyOf emptyWithin firstWithin empty first canBegin canSkip ready find orElse choice onward descend enter
     joined readWithin breadth reading isText runOf fits fitsOne answerTo questions17 productions17 classOf view treeRows
     placed cleared readTokens judged scannedTokens checkedNames verdict result answered lentTokens lentRows

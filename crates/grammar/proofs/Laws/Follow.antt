@@ -1,7 +1,7 @@
 -- What a derivation shows at its first token, where FIRST and FOLLOW are closed: the class there is one that the symbols can begin
 -- with, or one that may follow them if they are empty. Assumes nothing.
 use Prim.Native.Nat.{ℕ, _<_}
-use mathlib.Core.Path.{_≡_, refl, sym, subst}
+use mathlib.Core.Path.{_≡_, refl}
 use mathlib.Core.Bool.{Bool, true, false}
 use mathlib.Core.List.{List, [], _∷_}
 use mathlib.Core.Logic.{_⊎_, inl, inr}
@@ -9,7 +9,7 @@ use native.Mathlib.Omega.{arith}
 use Rattle.lexer.specs.Tests.{and, or}
 use Rattle.lexer.proofs.Laws.Tests.{and-left, and-right, or-else, or-left}
 use Rattle.grammar.specs.Grammars.{Condition, next, query, Symbol, token, part, condition, Production, Names, View}
-use Rattle.grammar.specs.Grammars.{among, asked, met}
+use Rattle.grammar.specs.Grammars.{asked, met}
 use Rattle.grammar.specs.Rows.{Row}
 use Rattle.grammar.specs.Derivations.{Has, Derives, end, taken, held, entered}
 use Rattle.grammar.specs.First.{allows, skips, starts, empty, first, canBegin, canSkip}
@@ -37,7 +37,8 @@ passed-at g h bound c t l = record {
   firsts = below-at (λ (c : ℕ). every (firstClosed g c) g) bound c (t .firsts) l;
   empties = below-at (λ (c : ℕ). every (emptyClosed g c) g) bound c (t .empties) l;
   follows = below-at (λ (c : ℕ). every (followClosed g h c) g) bound c (t .follows) l;
-  exclude = below-at (λ (c : ℕ). exclusive g h c g) bound c (t .exclude) l }
+  exclude = below-at (λ (c : ℕ). exclusive g h c g) bound c (t .exclude) l;
+}
 
 -- less may follow
 may-less : (g : List Production) (c : ℕ) (a b : Bool) (ss : List Symbol) → implies a b ≡ true → may g c a ss ≡ true → may g c b ss ≡ true
@@ -124,11 +125,11 @@ module _ (g : List Production) (v : View) (h : Hints) (bound : ℕ) (good : Clos
       let skip : empty g c (p .left) ≡ true → empty g c x ≡ true = λ (t : empty g c (p .left) ≡ true). rw (← left) t in
       may-part (first g c x) (empty g c x) (starts c (first g c) (empty g c) ss) (skips c (empty g c) ss) a
       (or-else (starts c (first g c) (empty g c) (p .right)) _
-        (λ (t : starts c (first g c) (empty g c) (p .right) ≡ true).
-          inl (begin (implies-true _ _ (every-has (firstClosed g c) g p (tests .firsts) has) t)))
-        (λ (t : and (skips c (empty g c) (p .right)) (may g c a ss) ≡ true).
-          inr (skip (implies-true _ _ (every-has (emptyClosed g c) g p (tests .empties) has) (and-left _ _ t)), and-right _ _ t))
-        m)
+      (λ (t : starts c (first g c) (empty g c) (p .right) ≡ true).
+      inl (begin (implies-true _ _ (every-has (firstClosed g c) g p (tests .firsts) has) t)))
+      (λ (t : and (skips c (empty g c) (p .right)) (may g c a ss) ≡ true).
+      inr (skip (implies-true _ _ (every-has (emptyClosed g c) g p (tests .empties) has) (and-left _ _ t)), and-right _ _ t))
+      m)
 
   pub may-begin : {e : Names} {n i j said : ℕ} {ss : List Symbol} {rows : List Row} → Derives g v e n ss i j rows said
       → (after : ℕ → Bool) → Flows after ss → after (v .class e j) ≡ true
@@ -143,10 +144,10 @@ module _ (g : List Production) (v : View) (h : Hints) (bound : ℕ) (good : Clos
       let l = steady .classed e j in
       let follow = implies-true _ (h .follow x (v .class e j)) (flows-part after x ss f (v .class e j) l) next in
       let here : may g (v .class (v .inside x i e) j) (after (v .class (v .inside x i e) j)) ss ≡ true =
-        rw (steady .follow-same x i e j follow) next in
+      rw (steady .follow-same x i e j follow) next in
       let begin = may-begin inner (λ (c : ℕ). may g c (after c) ss)
-        (λ (c : ℕ) (l : c < bound). flows-less g h c (may g c (after c) ss) (h .follow x c) (p .right) (flows-part after x ss f c l)
-          (flows-right p x has left c l)) here in
+      (λ (c : ℕ) (l : c < bound). flows-less g h c (may g c (after c) ss) (h .follow x c) (p .right) (flows-part after x ss f c l)
+      (flows-right p x has left c l)) here in
       part-by p x (v .class e i) (after (v .class e i)) ss (steady .classed e i) has left (rw (steady .first-same x i e) at begin)
 
   -- what comes after a part may follow it

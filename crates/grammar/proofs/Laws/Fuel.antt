@@ -5,19 +5,18 @@ use mathlib.Core.Bool.{Bool, true, false}
 use mathlib.Core.List.{List, [], _∷_}
 use native.Mathlib.Nat.{mul-le-mul-right, sub-zero}
 use native.Mathlib.Omega.{arith}
-use lib.Dec.{eqb, leb}
-use borrow.Author.Tests.{eqb-true, leb-true, le-leb}
-use Rattle.lexer.specs.Tests.{and, pick}
+use lib.Dec.{leb}
+use borrow.Author.Tests.{leb-true}
+use Rattle.lexer.specs.Tests.{and, pick, among}
 use Rattle.lexer.proofs.Laws.Tests.{and-left, and-right}
-use Rattle.grammar.specs.Grammars.{among, Condition, Symbol, token, part, condition, Production, Names, View, agrees, met}
+use Rattle.grammar.specs.Grammars.{Condition, Symbol, token, part, condition, Production, Names, View, agrees, met}
 use Rattle.grammar.specs.Rows.{Row, levels}
-use Rattle.grammar.specs.Derivations.{Has, here, there}
-use Rattle.grammar.specs.First.{canBegin, canSkip}
-use Rattle.grammar.specs.Reading.{Outcome, ok, stuck, deep, spent, ready, Choice, none, one, find, orElse, choice}
-use Rattle.grammar.specs.Reading.{onward, descend, enter, joined, readWithin, breadth, whole, reading}
+use Rattle.grammar.specs.Reading.{Outcome, ok, spent, one, choice}
+use Rattle.grammar.specs.Reading.{joined, readWithin, breadth, whole, reading}
 use Rattle.grammar.proofs.Laws.Tests.{and-else, implies-false, every-has}
 use Rattle.grammar.proofs.Laws.Choices.{chosen}
-use Rattle.grammar.proofs.Laws.Outcomes.{Ends, upTo, out, ends-ok, ends-spent, ends-over, ends-both, ends-pick, ends-onward, ends-enter}
+use Rattle.grammar.proofs.Laws.Outcomes.{Ends, upTo, out, ends-ok, ends-spent, ends-over, ends-both, ends-pick, ends-onward}
+use Rattle.grammar.proofs.Laws.Outcomes.{ends-enter}
 use Rattle.grammar.proofs.Laws.Checks.{Hints, implies, every, noEnd, vanishes, needs, bounded, falls}
 
 -- what holds of the token that is read up to, or where the fuel is spent

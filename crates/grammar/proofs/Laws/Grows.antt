@@ -1,12 +1,12 @@
 -- More fuel never changes an outcome but one whose fuel is spent, and more levels never change one but a too deep one.
 -- Assumes nothing, and asks nothing of the table.
-use Prim.Native.Nat.{ℕ, zero, suc, _+_, _-_, _≤_}
+use Prim.Native.Nat.{ℕ, zero, suc, _-_, _≤_}
 use mathlib.Core.Path.{_≡_, refl}
 use mathlib.Core.Bool.{Bool, true, false}
 use mathlib.Core.List.{List, [], _∷_}
 use native.Mathlib.Omega.{arith}
-use Rattle.lexer.specs.Tests.{pick}
-use Rattle.grammar.specs.Grammars.{among, Symbol, token, part, condition, Production, Names, View, met}
+use Rattle.lexer.specs.Tests.{pick, among}
+use Rattle.grammar.specs.Grammars.{Symbol, token, part, condition, Production, Names, View, met}
 use Rattle.grammar.specs.Rows.{Row, levels}
 use Rattle.grammar.specs.Derivations.{Derives, end, taken, held, entered}
 use Rattle.grammar.specs.Reading.{Outcome, ok, stuck, deep, spent, Choice, none, one, choice, onward, descend, enter, joined}
@@ -73,10 +73,10 @@ module _ (g : List Production) (v : View) where
       → Grows w (readWithin g v fuel (v .inside x i e) left (p .right) i) (readWithin g v more (v .inside x i e) room (p .right) i)
       → ((j : ℕ) → Grows w (readWithin g v fuel e n ss j) (readWithin g v more e m ss j))
       → Grows w
-        (onward (readWithin g v fuel (v .inside x i e) left (p .right) i) (λ (j : ℕ) (inner : List Row) (said : ℕ).
-          onward (readWithin g v fuel e n ss j) (joined (p .gives) i j inner said)))
-        (onward (readWithin g v more (v .inside x i e) room (p .right) i) (λ (j : ℕ) (inner : List Row) (said : ℕ).
-          onward (readWithin g v more e m ss j) (joined (p .gives) i j inner said)))
+      (onward (readWithin g v fuel (v .inside x i e) left (p .right) i) (λ (j : ℕ) (inner : List Row) (said : ℕ).
+      onward (readWithin g v fuel e n ss j) (joined (p .gives) i j inner said)))
+      (onward (readWithin g v more (v .inside x i e) room (p .right) i) (λ (j : ℕ) (inner : List Row) (said : ℕ).
+      onward (readWithin g v more e m ss j) (joined (p .gives) i j inner said)))
   grows-part x i n m left room e ss p fuel more inner rest =
       grows-onward _ _ inner (λ (j : ℕ) (rows : List Row) (said : ℕ).
       grows-onward _ _ (rest j) (λ (k : ℕ) (others : List Row) (later : ℕ). same))

@@ -1,23 +1,21 @@
 -- The table of NURL 1.7 passes the computed tests. FOLLOW and the other hints stand here: nobody has to believe them, for a wrong
 -- one only fails a test. Assumes nothing.
-use Prim.Native.Nat.{ℕ, zero, suc, _+_}
+use Prim.Native.Nat.{ℕ, suc}
 use mathlib.Core.Path.{_≡_, refl}
-use mathlib.Core.Bool.{Bool, true, false}
+use mathlib.Core.Bool.{Bool, true}
 use mathlib.Core.List.{List, [], _∷_}
 use native.Mathlib.Omega.{arith}
 use lib.Dec.{eqb}
-use lib.ListN.{getD}
-use Rattle.lexer.specs.Tests.{and, or, pick}
-use Rattle.lexer.specs.Kinds.{ident, keyword, boolean, int, dollar, ampersand, at, percent, colon, rightBrace, leftParen, rightParen}
+use Rattle.lexer.specs.Tests.{and, or, pick, among}
+use Rattle.lexer.specs.Kinds.{ident, keyword, boolean, dollar, ampersand, at, percent, colon, rightBrace, leftParen, rightParen}
 use Rattle.lexer.specs.Kinds.{leftBracket, rightBracket, bang, question, star, arrow}
-use Rattle.lexer.specs.Text.{bytes}
-use Rattle.grammar.specs.Grammars.{endOfTokens, among, agrees, Production, Names}
+use Rattle.grammar.specs.Grammars.{endOfTokens, agrees, Names}
 use Rattle.grammar.specs.Rows.{levels}
 use Rattle.grammar.specs.First.{allows, skips, starts, anyOf, emptyWithin, firstWithin, empty, first, canBegin, canSkip}
 use Rattle.grammar.specs.Reading.{breadth, whole}
-use Rattle.grammar.specs.Classes.{typeName, classes, name}
-use Rattle.grammar.specs.Nonterminals.{program, declarations, declaration, alias, interface, methods, method, body, functions}
-use Rattle.grammar.specs.Nonterminals.{function, definition, mutable, fields, parameters, variants, variant, payloadTypes}
+use Rattle.grammar.specs.Classes.{typeName, classes}
+use Rattle.grammar.specs.Nonterminals.{program, declarations, declaration, alias, methods, method, body, functions}
+use Rattle.grammar.specs.Nonterminals.{definition, mutable, fields, parameters, variants, variant, payloadTypes}
 use Rattle.grammar.specs.Nonterminals.{fieldName, typeParameters, moreNames, statements, loopOrComplement, expressions}
 use Rattle.grammar.specs.Nonterminals.{typeArguments, moreWords, selector, arms, payloads3, payloads2, payloads1, types, type}
 use Rattle.grammar.specs.Nonterminals.{interfaceRest, field, parameter, statement, binding, tildeStatement, expression}
@@ -25,7 +23,8 @@ use Rattle.grammar.specs.Nonterminals.{tryOrClosure, castRest}
 use Rattle.grammar.specs.Nurl.{productions17}
 use Rattle.grammar.specs.Languages.{language17, view}
 use Rattle.typenames.specs.TypeNames.{Item}
-use Rattle.grammar.proofs.Laws.Checks.{Hints, implies, every, may, firstClosed, emptyClosed, flows, followClosed, live, asks, opposed}
+use Rattle.grammar.proofs.Laws.Checks.{Hints, implies, every, may, firstClosed, emptyClosed, flows, followClosed, live, asks}
+use Rattle.grammar.proofs.Laws.Checks.{opposed}
 use Rattle.grammar.proofs.Laws.Checks.{excludes, exclusive, below, noEnd, vanishes, needs, bounded, falls, fewerOf}
 use Rattle.grammar.proofs.Laws.Checks.{moreOf, fewRows, Passes}
 use Rattle.grammar.proofs.Laws.Follow.{Steady}
@@ -85,22 +84,23 @@ weightOf x =
     pick (among (statements ∷ tryOrClosure ∷ []) x) 5
     (pick (among (program ∷ definition ∷ statement ∷ tildeStatement ∷ []) x) 4
     (pick (among (declarations ∷ fields ∷ parameters ∷ variants ∷ payloadTypes ∷ typeParameters ∷ binding ∷ expressions ∷
-        typeArguments ∷ castRest ∷ selector ∷ []) x) 3
+    typeArguments ∷ castRest ∷ selector ∷ []) x) 3
     (pick (among (declaration ∷ interfaceRest ∷ methods ∷ body ∷ functions ∷ field ∷ fieldName ∷ parameter ∷ variant ∷
-        loopOrComplement ∷ expression ∷ arms ∷ payloads3 ∷ payloads2 ∷ payloads1 ∷ types ∷ []) x) 2 1)))
+    loopOrComplement ∷ expression ∷ arms ∷ payloads3 ∷ payloads2 ∷ payloads1 ∷ types ∷ []) x) 2 1)))
 
 unfoldable pub hints17 : Hints
 unfolding follow weightOf
 hints17 = record {
-    follow = follow followed;
-    nullable = among (
-        program ∷ declarations ∷ alias ∷ methods ∷ body ∷ functions ∷ mutable ∷ fields ∷ fieldName ∷ parameters ∷ variants ∷
-        payloadTypes ∷ typeParameters ∷ moreNames ∷ statements ∷ loopOrComplement ∷ expressions ∷ typeArguments ∷ moreWords ∷
-        selector ∷ arms ∷ payloads3 ∷ payloads2 ∷ payloads1 ∷ types ∷ []);
-    weight = weightOf;
-    -- a type has a row less than two for each token, the program one more
-    fewer = λ x. pick (eqb x type) 1 0;
-    more = λ x. pick (eqb x program) 1 0 }
+  follow = follow followed;
+  nullable = among (
+      program ∷ declarations ∷ alias ∷ methods ∷ body ∷ functions ∷ mutable ∷ fields ∷ fieldName ∷ parameters ∷ variants ∷
+      payloadTypes ∷ typeParameters ∷ moreNames ∷ statements ∷ loopOrComplement ∷ expressions ∷ typeArguments ∷ moreWords ∷
+      selector ∷ arms ∷ payloads3 ∷ payloads2 ∷ payloads1 ∷ types ∷ []);
+  weight = weightOf;
+  -- a type has a row less than two for each token, the program one more
+  fewer = λ x. pick (eqb x type) 1 0;
+  more = λ x. pick (eqb x program) 1 0;
+}
 
 -- FIRST is closed
 firsts17 : below (λ (c : ℕ). every (firstClosed productions17 c) productions17) classes ≡ true
@@ -146,7 +146,8 @@ passes17 = record {
   falling = falls17;
   start = start17;
   few = few17;
-  once = omega arith }
+  once = omega arith;
+}
 
 -- no nonterminal adds names, so that classes stay what they are
 pub steady17 : (ts : List Item) → Kinds ts → Steady (view language17 ts) hints17 classes
@@ -154,4 +155,5 @@ unfolding view
 steady17 ts k = record {
   classed = λ (e : Names) (i : ℕ). class-below e k i;
   first-same = λ (x i : ℕ) (e : Names). refl;
-  follow-same = λ (x i : ℕ) (e : Names) (j : ℕ) h. refl }
+  follow-same = λ (x i : ℕ) (e : Names) (j : ℕ) h. refl;
+}

@@ -1,19 +1,19 @@
 -- The theorems about readings and derivations of token lists, for any table that passes the tests. Assumes nothing.
 use Prim.Native.Nat.{ℕ, zero, suc, _+_, _*_, _≤_, _<_, max}
-use mathlib.Core.Path.{_≡_, refl, sym, _∙_, ap, subst}
-use mathlib.Core.Bool.{Bool, true, false}
+use mathlib.Core.Path.{_≡_, refl, sym, subst}
+use mathlib.Core.Bool.{true, false}
 use mathlib.Core.List.{List, [], _∷_}
 use native.Mathlib.Omega.{arith}
-use lib.Dec.{eqb, leb, eqb·zero-suc}
+use lib.Dec.{eqb, eqb·zero-suc}
 use lib.ListN.{length}
-use borrow.Author.Tests.{eqb-true, leb-true}
-use Rattle.lexer.specs.Tests.{and, or}
+use borrow.Author.Tests.{eqb-true}
+use Rattle.lexer.specs.Tests.{and, or, among}
 use Rattle.lexer.proofs.Laws.Tests.{and-left, and-right, or-else}
-use Rattle.grammar.specs.Grammars.{endOfTokens, among, next, Symbol, part, when, Production, Names, View, agrees, asked, met}
+use Rattle.grammar.specs.Grammars.{endOfTokens, next, Symbol, part, when, Production, Names, View, agrees, asked, met}
 use Rattle.grammar.specs.Rows.{Row}
 use Rattle.grammar.specs.Derivations.{Derives, end, taken, held, entered, Derivation, derivation}
 use Rattle.grammar.specs.First.{allows, skips, starts}
-use Rattle.grammar.specs.Reading.{Outcome, ok, stuck, deep, spent, breadth, whole, readWithin, reading}
+use Rattle.grammar.specs.Reading.{ok, stuck, deep, spent, breadth, whole, reading}
 use Rattle.grammar.proofs.Laws.Checks.{Hints, noEnd, implies, every, may, flows, falls, Passes}
 use Rattle.grammar.proofs.Laws.Tests.{and-both, implies-by, every-has}
 use Rattle.grammar.proofs.Laws.Follow.{Steady, Flows}

@@ -1,10 +1,11 @@
 -- Sound: what the reading accepts is a derivation with those rows, within the levels that were left. Assumes nothing, and asks
 -- nothing of the table.
 use Prim.Native.Nat.{ℕ, zero, suc, _+_}
-use mathlib.Core.Path.{_≡_, refl, subst}
+use mathlib.Core.Path.{_≡_, subst}
 use mathlib.Core.Bool.{true}
 use mathlib.Core.List.{List, [], _∷_}
-use Rattle.grammar.specs.Grammars.{among, Symbol, token, part, condition, Production, Names, View, met}
+use Rattle.lexer.specs.Tests.{among}
+use Rattle.grammar.specs.Grammars.{Symbol, token, part, condition, Production, Names, View, met}
 use Rattle.grammar.specs.Rows.{Row, levels}
 use Rattle.grammar.specs.Derivations.{Derives, end, taken, held, entered}
 use Rattle.grammar.specs.Reading.{ok, one, choice, joined, readWithin}

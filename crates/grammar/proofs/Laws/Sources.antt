@@ -2,18 +2,16 @@
 use Prim.Native.Nat.{ℕ, _+_, _*_, _≤_}
 use mathlib.Core.Path.{_≡_}
 use mathlib.Core.Bool.{true}
-use mathlib.Core.List.{List, [], _∷_}
+use mathlib.Core.List.{List}
 use lib.ListN.{length}
 use Rattle.lexer.specs.Tokens.{Token, clean, scan}
 use Rattle.lexer.proofs.Laws.Sizes.{spelled}
 use Rattle.lexer.proofs.Laws.Places.{tokens-placed}
-use Rattle.typenames.specs.NameList.{entries}
-use Rattle.typenames.specs.TypeNames.{Item, items, typeNames}
-use Rattle.grammar.specs.Grammars.{part}
+use Rattle.typenames.specs.TypeNames.{Item, items}
 use Rattle.grammar.specs.Rows.{Row}
-use Rattle.grammar.specs.Derivations.{Derives, Derivation, derivation}
+use Rattle.grammar.specs.Derivations.{derivation}
 use Rattle.grammar.specs.Forests.{Forest}
-use Rattle.grammar.specs.Reading.{Outcome, ok, stuck, deep, spent, reading}
+use Rattle.grammar.specs.Reading.{Outcome, ok, stuck, deep, spent}
 use Rattle.grammar.specs.Classes.{classes}
 use Rattle.grammar.specs.Languages.{Language, view}
 use Rattle.grammar.specs.Answers.{readTokens}

@@ -2,12 +2,12 @@
 use Prim.Native.Nat.{ℕ, zero, suc, _<_}
 use mathlib.Core.Path.{_≡_, refl, subst, sym}
 use mathlib.Core.Bool.{Bool, true, false}
-use mathlib.Core.List.{List, [], _∷_}
+use mathlib.Core.List.{List}
 use native.Mathlib.Nat.{not-suc-le-zero}
 use native.Mathlib.Omega.{arith}
 use lib.Dec.{eqb}
 use borrow.Author.Tests.{eqb-true, eqb-false}
-use Rattle.lexer.specs.Tests.{and, or}
+use Rattle.lexer.specs.Tests.{and}
 use Rattle.lexer.proofs.Laws.Tests.{and-left, and-right}
 use Rattle.grammar.specs.Grammars.{Production}
 use Rattle.grammar.specs.Derivations.{Has, here, there}

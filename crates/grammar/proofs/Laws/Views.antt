@@ -1,6 +1,6 @@
 -- What the grammar asks of the tokens of a source: their classes are below the number of classes, and 0 past the last token and
 -- only there. Assumes nothing.
-use Prim.Native.Nat.{ℕ, zero, suc, _+_, _<_, _≤_}
+use Prim.Native.Nat.{ℕ, zero, suc, _<_, _≤_}
 use mathlib.Core.Path.{_≡_, refl}
 use mathlib.Core.Bool.{Bool, true, false}
 use mathlib.Core.List.{List, [], _∷_}
@@ -74,4 +74,5 @@ pub view-counted : (l : Language) (ts : List Item) → Kinds ts → Counted (vie
 unfolding view
 view-counted l ts k = record {
   past = λ (e : Names) (i : ℕ). class-past e ts i;
-  inside = λ (e : Names) (i : ℕ). class-inside e k i }
+  inside = λ (e : Names) (i : ℕ). class-inside e k i;
+}
