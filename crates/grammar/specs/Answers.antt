@@ -7,13 +7,13 @@ use lib.ListN.{length}
 use Rattle.lexer.specs.Tests.{pick}
 use Rattle.lexer.specs.Tokens.{Token, Scan, clean, fault, scan}
 use Rattle.lexer.specs.Table.{sourceLimit, tokenRoom, filled}
-use Rattle.typenames.specs.NameList.{entries, checked}
-use Rattle.typenames.specs.TypeNames.{items, typeNames}
+use Rattle.typenames.specs.NameList.{checked}
 use Rattle.typenames.specs.declared.Checked.{Checked}
 use Rattle.typenames.specs.declared.Checked.the-variants.{Good}
 use Rattle.grammar.specs.Rows.{Row}
-use Rattle.grammar.specs.Reading.{Outcome, ok, stuck, deep, spent, reading}
-use Rattle.grammar.specs.Languages.{Language, view}
+use Rattle.grammar.specs.Reading.{Outcome, ok, stuck, deep, spent}
+use Rattle.grammar.specs.Languages.{Language, language17}
+use Rattle.grammar.specs.Sources.{readTokens}
 use Rattle.grammar.specs.TreeTable.{treeRoom, placed, cleared}
 use Rattle.grammar.specs.declared.Answer.{Answer}
 use Rattle.grammar.specs.declared.Answer.the-variants.{Accepted, Refused}
@@ -22,49 +22,45 @@ use Rattle.grammar.specs.declared.Answer.the-variants.{Accepted, Refused
 abbrev pub levelLimit : ℕ
 levelLimit = 200
 
--- document 01's number and values for each case of the answer: 0 and the two row counts, or the refusal's number and its place
+-- document 01's number and values for each case of the answer, as three numbers: 0 and the two row counts, or the refusal's number,
+-- its place and 0
 unfoldable pub values : Answer → List ℕ
 values (Accepted tokens rows) = 0 ∷ tokens ∷ rows ∷ []
 values (Refused number place) = number ∷ place ∷ 0 ∷ []
 
--- the reading of the tokens of a source, under its type names
-unfoldable pub readTokens : Language → ℕ → List ℕ → List ℕ → List Token → Outcome
-readTokens l limit source names ts =
-    reading (l .productions) (view l (items source ts)) (length ts) (typeNames (l .opening) (entries names) (items source ts)) limit (l .start)
-
 -- what is found out about a source
 pub data Verdict : Type 0 where
   -- refusals 1 to 5: a number and a place
-  before : ℕ → ℕ → Verdict
+  early : ℕ → ℕ → Verdict
   -- refusals 6 to 8: a number and a place, and the tokens
-  after : ℕ → ℕ → List Token → Verdict
+  late : ℕ → ℕ → List Token → Verdict
   accept : List Token → List Row → Verdict
 
--- No. 6 to 8; the fuel of a reading is never spent
+-- No. 6 to 8, of 6 and 7 the one that the reading meets first; its fuel is never spent
 unfoldable pub judged : ℕ → List Token → Outcome → Verdict
-judged room ts (ok j rows said) = pick (leb (length rows) room) (accept ts rows) (after 8 (length rows) ts)
-judged room ts (stuck i) = after 6 i ts
-judged room ts (deep i) = after 7 i ts
-judged room ts spent = after 6 0 ts
+judged treeSpace ts (ok j rows said) = pick (leb (length rows) treeSpace) (accept ts rows) (late 8 (length rows) ts)
+judged treeSpace ts (stuck i) = late 6 i ts
+judged treeSpace ts (deep i) = late 7 i ts
+judged treeSpace ts spent = late 6 0 ts
 
--- No. 3 to 5
+-- No. 3 to 5, of 3 and 4 the one met first
 unfoldable pub scannedTokens : Language → ℕ → List ℕ → List ℕ → ℕ → ℕ → Scan → Verdict
-scannedTokens l limit source names tokenRows treeRows (fault number place) = before number place
-scannedTokens l limit source names tokenRows treeRows (clean ts) =
-    let judgement = judged treeRows ts (readTokens l limit source names ts) in
-    pick (leb (length ts) tokenRows) judgement (before 5 (length ts))
+scannedTokens l limit source names tokenSpace treeSpace (fault number place) = early number place
+scannedTokens l limit source names tokenSpace treeSpace (clean ts) =
+    let judgement = judged treeSpace ts (readTokens l limit source names ts) in
+    pick (leb (length ts) tokenSpace) judgement (early 5 (length ts))
 
 -- No. 2
 unfoldable pub checkedNames : Checked → Verdict → Verdict
 checkedNames Good v = v
-checkedNames (Checked.Refused number place) v = before number place
+checkedNames (Checked.Refused number place) v = early number place
 
--- No. 1 to 8
+-- No. 1 to 8, for tables with space for so many whole rows
 unfoldable pub verdict : Language → ℕ → List ℕ → List ℕ → ℕ → ℕ → Verdict
-verdict l limit source names tokenRows treeRows =
-    let scanned = scannedTokens l limit source names tokenRows treeRows (scan (l .lexical) source) in
+verdict l limit source names tokenSpace treeSpace =
+    let scanned = scannedTokens l limit source names tokenSpace treeSpace (scan (l .lexical) source) in
     let named = checkedNames (checked (l .lexical) names) scanned in
-    pick (ltb sourceLimit (length source)) (before 1 0) named
+    pick (ltb sourceLimit (length source)) (early 1 0) named
 
 -- the answer, and what the token table and the tree table hold afterwards
 pub record Result : Type 0 where
@@ -74,11 +70,15 @@ pub record Result : Type 0 where
 
 -- "unchanged", "all tokens" and "whole rows all zero"
 unfoldable pub result : Verdict → List ℕ → List ℕ → Result
-result (before number place) tokens rows = record { answer = Refused number place; tokens = tokens; rows = rows }
-result (after number place ts) tokens rows = record { answer = Refused number place; tokens = filled ts tokens; rows = cleared rows }
+result (early number place) tokens rows = record { answer = Refused number place; tokens = tokens; rows = rows }
+result (late number place ts) tokens rows = record { answer = Refused number place; tokens = filled ts tokens; rows = cleared rows }
 result (accept ts rs) tokens rows =
     record { answer = Accepted (length ts) (length rs); tokens = filled ts tokens; rows = placed rs rows }
 
 -- the answer for a source, a list of names, a token table and a tree table
 unfoldable pub answered : Language → ℕ → List ℕ → List ℕ → List ℕ → List ℕ → Result
 answered l limit source names tokens rows = result (verdict l limit source names (tokenRoom tokens) (treeRoom rows)) tokens rows
+
+-- for grammar 1.7
+abbrev pub answer17 : List ℕ → List ℕ → List ℕ → List ℕ → Result
+answer17 = answered language17 levelLimit

@@ -1,18 +1,15 @@
--- The classes of tokens that the table of NURL speaks of. A class is a token's kind, but an IDENT in N has a class of its own.
+-- The classes of tokens that the table of NURL speaks of. A class is a token's kind, but an IDENT in N has a class of its own. So
+-- the classes are 0, the end, to 43.
 use Prim.Native.Nat.{ℕ}
 use mathlib.Core.List.{List, [], _∷_}
 use Rattle.lexer.specs.Kinds.{ident, keyword, boolean, int, float, string, ampersand, percent, bar, star, plus, minus, slash}
 use Rattle.lexer.specs.Kinds.{less, greater, equalEqual, bangEqual, lessEqual, greaterEqual, lessLess, greaterGreater}
 
--- an IDENT in N; the class of its kind is then an IDENT that is not in N
+-- an IDENT in N; as a class, `ident` is then an IDENT that is not in N
 abbrev pub typeName : ℕ
 typeName = 43
 
--- the number of classes
-abbrev pub classes : ℕ
-classes = 44
-
--- IDENT
+-- any IDENT
 abbrev pub name : List ℕ
 name = ident ∷ typeName ∷ []
 
@@ -40,7 +37,7 @@ payloadToken = ident ∷ typeName ∷ int ∷ []
 abbrev pub literals : List ℕ
 literals = int ∷ float ∷ string ∷ boolean ∷ []
 
--- BIN_OP
+-- BIN_OP = '+' | '-' | '*' | '/' | '%' | '<' | '>' | '==' | '!=' | '<=' | '>=' | '<<' | '>>' | '&' | '|'
 abbrev pub operators : List ℕ
 operators =
     plus ∷ minus ∷ star ∷ slash ∷ percent ∷ less ∷ greater ∷ equalEqual ∷ bangEqual ∷ lessEqual ∷ greaterEqual ∷

@@ -27,10 +27,10 @@ pub data Derives (g : List Production) (v : View) : Names → ℕ → List Symbo
       → Derives g v e n ss i j rows said
       → Derives g v e n (condition b q ∷ ss) i j rows said
   entered : {e : Names} {n below i j k x said later : ℕ} {p : Production} {ss : List Symbol} {inner rest : List Row}
-      → Has g p → p .left ≡ x → n ≡ levels (p .gives) + below
+      → Has g p → p .left ≡ x → n ≡ levels (p .makes) + below
       → Derives g v (v .inside x i e) below (p .right) i j inner said
       → Derives g v e n ss j k rest later
-      → Derives g v e n (part x ∷ ss) i k (made (p .gives) i j said inner ++ rest) (firstSaid (passed (p .gives) said) later)
+      → Derives g v e n (part x ∷ ss) i k (made (p .makes) i j said inner ++ rest) (firstSaid (passed (p .makes) said) later)
 
 -- A derivation of a token list of so many tokens: it "takes all the tokens". It is nested at most n levels: "The program row is
 -- level 1, a child is its parent's level plus one", so that a row at level k is entered with n - k + 1 levels left. "At any depth"

@@ -21,9 +21,9 @@ pub data Expected : Type 0 where
   -- accepted, with these tokens and these rows
   accepts : List Token → List Row → Expected
   -- refused with a number from 1 to 5 and a place: both tables unchanged
-  rejects : ℕ → ℕ → Expected
+  refusedEarly : ℕ → ℕ → Expected
   -- refused with a number from 6 to 8 and a place: all tokens in the token table, and the tree table cleared
-  refuses : ℕ → ℕ → List Token → Expected
+  refusedLate : ℕ → ℕ → List Token → Expected
 
 pub record Example : Type 0 where
   pub source : List ℕ
@@ -45,8 +45,8 @@ lentRows = replicate 50 7
 
 unfoldable pub resultOf : Expected → Result
 resultOf (accepts ts rs) = record { answer = Accepted (length ts) (length rs); tokens = filled ts lentTokens; rows = placed rs lentRows }
-resultOf (rejects number place) = record { answer = Refused number place; tokens = lentTokens; rows = lentRows }
-resultOf (refuses number place ts) = record { answer = Refused number place; tokens = filled ts lentTokens; rows = cleared lentRows }
+resultOf (refusedEarly number place) = record { answer = Refused number place; tokens = lentTokens; rows = lentRows }
+resultOf (refusedLate number place ts) = record { answer = Refused number place; tokens = filled ts lentTokens; rows = cleared lentRows }
 
 -- a source that is a text, with no extra names
 unfoldable pub example : String → Expected → Example
@@ -65,7 +65,7 @@ examples =
     (token colon 0 1 ∷ token keyword 2 1 ∷ token ident 4 5 ∷ token int 10 3 ∷ [])
     (node programRow 0 4 4 ∷ node constantRow 0 4 3 ∷ node baseTypeRow 1 1 1 ∷ node literalRow 3 1 1 ∷ [])) ∷
     -- M3
-    example ": i a - 4" (refuses 6 3
+    example ": i a - 4" (refusedLate 6 3
     (token colon 0 1 ∷ token keyword 2 1 ∷ token ident 4 1 ∷ token minus 6 1 ∷ token int 8 1 ∷ [])) ∷
     -- M4
     example "@ g → v { [ i | -40 60 ] }" (accepts
@@ -80,18 +80,18 @@ examples =
     (node programRow 0 13 9 ∷ node functionRow 0 13 8 ∷ node baseTypeRow 3 1 1 ∷ node blockRow 4 9 6 ∷ node sliceRow 5 7 5 ∷
     node baseTypeRow 6 1 1 ∷ node binaryRow 8 3 3 ∷ node literalRow 9 1 1 ∷ node literalRow 10 1 1 ∷ [])) ∷
     -- M5, for `??` is one token
-    example "@ g ??i x → v { }" (refuses 6 2
+    example "@ g ??i x → v { }" (refusedLate 6 2
     (token at 0 1 ∷ token ident 2 1 ∷ token questionQuestion 4 2 ∷ token keyword 6 1 ∷ token ident 8 1 ∷ token arrow 10 3 ∷
     token keyword 14 1 ∷ token leftBrace 16 1 ∷ token rightBrace 18 1 ∷ [])) ∷
     -- M6
-    example "m::alloc" (refuses 6 0
+    example "m::alloc" (refusedLate 6 0
     (token ident 0 8 ∷ [])) ∷
-    example "m::i" (refuses 6 0
+    example "m::i" (refusedLate 6 0
     (token ident 0 1 ∷ token colon 1 1 ∷ token colon 2 1 ∷ token keyword 3 1 ∷ [])) ∷
     -- M7
-    example "`" (rejects 4 0) ∷
+    example "`" (refusedEarly 4 0) ∷
     -- M8
-    example "," (rejects 3 0) ∷
+    example "," (refusedEarly 3 0) ∷
     -- M9: one statement with the declaration, and two without
     example ": Foo { } @ g → v { : Foo x 1 }" (accepts
     (token colon 0 1 ∷ token ident 2 3 ∷ token leftBrace 6 1 ∷ token rightBrace 8 1 ∷ token at 10 1 ∷ token ident 12 1 ∷
@@ -131,7 +131,7 @@ examples =
     (node programRow 0 9 7 ∷ node functionRow 0 9 6 ∷ node baseTypeRow 3 1 1 ∷ node blockRow 4 5 4 ∷ node complementRow 5 2 2 ∷
     node nameRow 6 1 1 ∷ node literalRow 7 1 1 ∷ [])) ∷
     -- M11, by rule 7
-    example "@ g → v { ?? r { X → \\ a B → 1 } }" (refuses 6 14
+    example "@ g → v { ?? r { X → \\ a B → 1 } }" (refusedLate 6 14
     (token at 0 1 ∷ token ident 2 1 ∷ token arrow 4 3 ∷ token keyword 8 1 ∷ token leftBrace 10 1 ∷ token questionQuestion 12 2 ∷
     token ident 15 1 ∷ token leftBrace 17 1 ∷ token ident 19 1 ∷ token arrow 21 3 ∷ token backslash 25 1 ∷ token ident 27 1 ∷
     token ident 29 1 ∷ token arrow 31 3 ∷ token int 35 1 ∷ token rightBrace 37 1 ∷ token rightBrace 39 1 ∷ [])) ∷

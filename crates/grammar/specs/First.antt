@@ -7,7 +7,7 @@ use lib.ListN.{length}
 use Rattle.lexer.specs.Tests.{and, or, among}
 use Rattle.grammar.specs.Grammars.{Condition, next, query, Symbol, token, part, condition, Production, agrees}
 
--- whether a condition can be met before a token of class c
+-- whether a condition can be met before a token of class c; a question, which asks for more than the next token, always can
 unfoldable pub allows : ℕ → Bool → Condition → Bool
 allows c b (next cs) = agrees b (among cs c)
 allows c b (query q) = true
@@ -43,7 +43,8 @@ anyOf x test (p ∷ ps) =
     let here = test (p .right) in
     or (and (eqb (p .left) x) here) rest
 
--- the same of a nonterminal, through at most so many nonterminals one at the front of the other
+-- whether a nonterminal can derive no token before one of class c, or begin with one, looking through at most so many
+-- nonterminals, one at the front of the other
 unfoldable pub emptyWithin : List Production → ℕ → ℕ → ℕ → Bool
 emptyWithin g zero c x = false
 emptyWithin g (suc d) c x = anyOf x (skips c (emptyWithin g d c)) g
@@ -52,7 +53,7 @@ unfoldable pub firstWithin : List Production → ℕ → ℕ → ℕ → Bool
 firstWithin g zero c x = false
 firstWithin g (suc d) c x = anyOf x (starts c (firstWithin g d c) (emptyWithin g d c)) g
 
--- no such chain is longer than the table
+-- no more than the table has productions need be looked through
 unfoldable pub empty : List Production → ℕ → ℕ → Bool
 empty g c x = emptyWithin g (length g) c x
 

@@ -4,8 +4,8 @@ use mathlib.Core.Bool.{Bool, true, false}
 use mathlib.Core.List.{List}
 use Rattle.lexer.specs.Tests.{among}
 
--- A class of tokens is a number: a token's kind, or a number of its own for tokens of one kind that the rules tell apart. Here is
--- the class of the place after the last token.
+-- A class of tokens is a number: a token's kind, or a number of its own for those tokens of a kind that the rules tell apart. This
+-- is the class of the place after the last token.
 abbrev pub endOfTokens : ℕ
 endOfTokens = 0
 
@@ -30,20 +30,20 @@ when q = condition true q
 abbrev pub unless : Condition → Symbol
 unless q = condition false q
 
--- the row that a production gives
-pub data Gives : Type 0 where
+-- the row that a production makes
+pub data Makes : Type 0 where
   -- a row of this kind over all that the production derives
-  row : ℕ → Gives
+  row : ℕ → Makes
   -- a row whose kind a part of the production says
-  rowOf : Gives
-  -- no row, but the kind of the row that this is a part of
-  says : ℕ → Gives
-  -- no row
-  noRow : Gives
+  rowOf : Makes
+  -- no row, but the kind of the row that it is a part of
+  says : ℕ → Makes
+  -- no row; what its parts say, it says
+  noRow : Makes
 
 pub record Production : Type 0 where
   pub left : ℕ
-  pub gives : Gives
+  pub makes : Makes
   pub right : List Symbol
 
 -- the environment of a reading: the type names in force

@@ -1,4 +1,4 @@
--- An edition of the language: its lexical rules and its grammar; and what the grammar asks of the tokens of a source.
+-- A language: an edition of NURL, with its lexical rules and its grammar; and what the grammar asks of some tokens.
 use Prim.Native.Nat.{ℕ}
 use mathlib.Core.List.{List, [], _∷_, _++_}
 use lib.Dec.{eqb}
@@ -7,7 +7,7 @@ use Rattle.lexer.specs.Tests.{and, pick}
 use Rattle.lexer.specs.Kinds.{ident, leftBrace, leftBracket}
 use Rattle.lexer.specs.Editions.{Edition, edition17}
 use Rattle.typenames.specs.TypeNames.{Item, isNamed}
-use Rattle.grammar.specs.Grammars.{Production, Names, View}
+use Rattle.grammar.specs.Grammars.{endOfTokens, Production, Names, View}
 use Rattle.grammar.specs.Nonterminals.{program}
 use Rattle.grammar.specs.Classes.{typeName}
 use Rattle.grammar.specs.Questions.{Question, answerTo}
@@ -37,13 +37,13 @@ language17 =
     }
 
 abbrev pub noItem : Item
-noItem = record { kind = 0; text = [] }
+noItem = record { kind = endOfTokens; text = [] }
 
--- "an IDENT in N is a class of its own"
+-- the class of a token: its kind, but an IDENT in N has a class of its own
 unfoldable pub classOf : Names → Item → ℕ
 classOf e t = pick (and (eqb (t .kind) ident) (isNamed e (t .text))) typeName (t .kind)
 
--- what the grammar asks of some tokens; past the last of them the class is 0
+-- what the grammar asks of some tokens; past the last of them is the end
 unfoldable pub view : Language → List Item → View
 view l ts =
     record {

@@ -11,6 +11,7 @@ pub mod Classes
 pub mod Questions
 pub mod Nurl
 pub mod Languages
+pub mod Sources
 pub mod TreeTable
 pub mod Answers
 pub mod Examples

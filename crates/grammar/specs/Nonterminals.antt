@@ -40,7 +40,7 @@ function = 11
 abbrev pub definition : ℕ
 definition = 12
 
--- `~?`
+-- `'~'?`
 abbrev pub mutable : ℕ
 mutable = 13
 

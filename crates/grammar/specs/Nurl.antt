@@ -1,13 +1,13 @@
 -- The table of NURL, grammar 1.7: the productions of document 009 under rules 1 to 11 of document 01, one a line. Above each
--- group stands 009's production, and beside each condition the number of 01's rule. A repetition `x*` or an option `x?` of 009
--- is a nonterminal with two productions; productions that begin alike share a nonterminal that says the row's kind.
+-- group stands 009's production, and beside each condition the number of 01's rule, but for `opensStruct`, which is explained where
+-- the questions are. A repetition `x*` or an option `x?` of 009 is a nonterminal with two productions; productions that begin alike share a nonterminal that says the row's kind.
 use Prim.Native.Nat.{ℕ}
 use mathlib.Core.List.{List, [], _∷_}
 use Rattle.lexer.specs.Text.{bytes}
 use Rattle.lexer.specs.Kinds.{ident, keyword, boolean, sizeof, int, string, dollar, ampersand, at, percent, colon, bar, equal, semicolon}
 use Rattle.lexer.specs.Kinds.{tilde, leftBrace, rightBrace, leftParen, rightParen, leftBracket, rightBracket, bang, caret, backslash}
 use Rattle.lexer.specs.Kinds.{question, dot, hash, star, questionQuestion, arrow}
-use Rattle.grammar.specs.Grammars.{Condition, next, query, Symbol, token, part, when, unless, Gives, row, rowOf, says, noRow}
+use Rattle.grammar.specs.Grammars.{Condition, next, query, Symbol, token, part, when, unless, Makes, row, rowOf, says, noRow}
 use Rattle.grammar.specs.Grammars.{Production}
 use Rattle.grammar.specs.RowKinds.{programRow, importRow, foreignRow, traitRow, implRow, functionRow, structRow, enumRow}
 use Rattle.grammar.specs.RowKinds.{constantRow, headerRow, parameterRow, variantRow, listRow, blockRow, letRow, setNameRow}
@@ -23,14 +23,14 @@ use Rattle.grammar.specs.Nonterminals.{expressions, expression, literal,
 use Rattle.grammar.specs.Nonterminals.{castRest, selector, arms, arm, payloads3, payloads2, payloads1, payload, types, type}
 use Rattle.grammar.specs.Nonterminals.{parenthesized}
 use Rattle.grammar.specs.Classes.{name, declaredWord, word, typeWord, armHead, payloadToken, literals, operators}
-use Rattle.grammar.specs.Questions.{Piece, one, some, spelled, Question}
+use Rattle.grammar.specs.Questions.{Piece, oneOf, someOf, spelled, Question}
 
 -- a token of one kind
-abbrev pub mark : ℕ → Symbol
-mark kind = token (kind ∷ [])
+abbrev pub one : ℕ → Symbol
+one kind = token (kind ∷ [])
 
-abbrev pub rule : ℕ → Gives → List Symbol → Production
-rule left gives right = record { left = left; gives = gives; right = right }
+abbrev pub rule : ℕ → Makes → List Symbol → Production
+rule left makes right = record { left = left; makes = makes; right = right }
 
 -- Conditions on the next token. First: it is an IDENT that is not in N.
 abbrev pub plainName : Condition
@@ -48,7 +48,7 @@ aBrace = next (leftBrace ∷ [])
 abbrev pub aStar : Condition
 aStar = next (star ∷ [])
 
--- Questions about the tokens from here on. They ask for kinds and texts, and never for N.
+-- Questions about the tokens from here on. They ask for kinds and texts, and never for N, so that `ident` in them is any IDENT.
 abbrev pub opensNames : ℕ
 opensNames = 1
 
@@ -70,23 +70,27 @@ zeroOrOne = 6
 abbrev pub asking : ℕ → List (List Piece) → Question
 asking number patterns = record { number = number; patterns = patterns }
 
-abbrev pub a : ℕ → Piece
-a kind = one (kind ∷ [])
+abbrev pub single : ℕ → Piece
+single kind = oneOf (kind ∷ [])
 
 unfoldable pub questions17 : List Question
 unfolding bytes
 questions17 =
     -- rule 2: "`[` opens such a list where one is allowed and one or more such words run up to a `]`"
-    asking opensNames ((a leftBracket ∷ some (ident ∷ boolean ∷ []) ∷ a rightBracket ∷ []) ∷ []) ∷
-    asking opensWords ((a leftBracket ∷ some (ident ∷ boolean ∷ keyword ∷ []) ∷ a rightBracket ∷ []) ∷ []) ∷
-    -- after `:`, an IDENT and then `{` or a list make a struct, and anything else a constant; no derivation is lost by it, for a
-    -- struct goes on so, and a constant, whose type would be that IDENT, goes on with another IDENT
-    asking opensStruct ((a ident ∷ a leftBrace ∷ []) ∷ (a ident ∷ a leftBracket ∷ some (ident ∷ boolean ∷ []) ∷ a rightBracket ∷ []) ∷ []) ∷
+    asking opensNames ((single leftBracket ∷ someOf (ident ∷ boolean ∷ []) ∷ single rightBracket ∷ []) ∷ []) ∷
+    -- rule 2: "at a call .. keywords too"
+    asking opensWords ((single leftBracket ∷ someOf (ident ∷ boolean ∷ keyword ∷ []) ∷ single rightBracket ∷ []) ∷ []) ∷
+    -- After `:`, an IDENT before `{` or `[` is the name of a struct, and of what begins otherwise, `|` apart, a constant is made.
+    -- This is no rule of 01's and loses no derivation: a constant whose type is an IDENT goes on with another IDENT.
+    asking opensStruct ((single ident ∷ oneOf (leftBrace ∷ leftBracket ∷ []) ∷ []) ∷ []) ∷
     -- rule 6: "two IDENTs make a foreach"
-    asking twoNames ((a ident ∷ a ident ∷ []) ∷ []) ∷
-    -- rule 7: "before `→`; or a keyword, `*`, `?`, `[` or `!`; or `(` `@`; or IDENT IDENT `→`"
-    asking opensClosure ((a arrow ∷ []) ∷ (one (keyword ∷ star ∷ question ∷ leftBracket ∷ bang ∷ []) ∷ []) ∷ (a leftParen ∷ a at ∷ []) ∷
-    (a ident ∷ a ident ∷ a arrow ∷ []) ∷ []) ∷
+    asking twoNames ((single ident ∷ single ident ∷ []) ∷ []) ∷
+    -- rule 7: "exactly before `→`; or a keyword, `*`, `?`, `[` or `!`; or `(` `@`; or IDENT IDENT `→`"
+    asking opensClosure (
+    (single arrow ∷ []) ∷
+    (oneOf (keyword ∷ star ∷ question ∷ leftBracket ∷ bang ∷ []) ∷ []) ∷
+    (single leftParen ∷ single at ∷ []) ∷
+    (single ident ∷ single ident ∷ single arrow ∷ []) ∷ []) ∷
     -- rule 8: "a directly following INT whose text is `0` or `1`"
     asking zeroOrOne ((spelled int (bytes "0" ∷ bytes "1" ∷ []) ∷ []) ∷ []) ∷
     []
@@ -99,29 +103,29 @@ productions17 =
     rule declarations noRow [] ∷
     -- decl = import_decl | ffi_decl | trait_decl | impl_decl | fn_decl | struct_decl | enum_decl | const_decl
     -- import_decl = '$' STR IDENT?
-    rule declaration (row importRow) (mark dollar ∷ mark string ∷ part alias ∷ []) ∷
+    rule declaration (row importRow) (one dollar ∷ one string ∷ part alias ∷ []) ∷
     rule alias noRow (token name ∷ []) ∷
     rule alias noRow [] ∷
     -- ffi_decl = '&' STR '@' IDENT ffi_param* '→' type
-    rule declaration (row foreignRow) (mark ampersand ∷ mark string ∷ mark at ∷ token name ∷ part fields ∷ mark arrow ∷ part type ∷ []) ∷
+    rule declaration (row foreignRow) (one ampersand ∷ one string ∷ one at ∷ token name ∷ part fields ∷ one arrow ∷ part type ∷ []) ∷
     -- ffi_param = type IDENT?, which is field below
-    -- type_params = '[' IDENT+ ']', everywhere as type_params?
+    -- type_params = '[' IDENT+ ']', everywhere as type_params?; by rule 2 of IDENT, `T` and `F`
     rule typeParameters noRow (when (query opensNames) {- rule 2 -} ∷ part nameList ∷ []) ∷
     rule typeParameters noRow (unless (query opensNames) {- rule 2 -} ∷ []) ∷
-    rule nameList (row listRow) (mark leftBracket ∷ token declaredWord ∷ part moreNames ∷ mark rightBracket ∷ []) ∷
+    rule nameList (row listRow) (one leftBracket ∷ token declaredWord ∷ part moreNames ∷ one rightBracket ∷ []) ∷
     rule moreNames noRow (token declaredWord ∷ part moreNames ∷ []) ∷
     rule moreNames noRow [] ∷
     -- fn_decl = '@' IDENT type_params? param* '→' type block
     rule declaration noRow (part function ∷ []) ∷
-    rule function (row functionRow) (mark at ∷ token name ∷ part typeParameters ∷ part parameters ∷ mark arrow ∷ part type ∷ part block ∷ []) ∷
+    rule function (row functionRow) (one at ∷ token name ∷ part typeParameters ∷ part parameters ∷ one arrow ∷ part type ∷ part block ∷ []) ∷
     -- param = type IDENT
     rule parameters noRow (part parameter ∷ part parameters ∷ []) ∷
     rule parameters noRow [] ∷
     rule parameter (row parameterRow) (part type ∷ token name ∷ []) ∷
     -- struct_decl, enum_decl and const_decl begin with ':'
-    rule declaration rowOf (mark colon ∷ part definition ∷ []) ∷
-    -- struct_decl = ':' IDENT type_params? '{' field* '}'
-    rule definition (says structRow) (when (query opensStruct) ∷ token name ∷ part typeParameters ∷ mark leftBrace ∷ part fields ∷ mark rightBrace ∷ []) ∷
+    rule declaration rowOf (one colon ∷ part definition ∷ []) ∷
+    -- struct_decl = ':' IDENT type_params? '{' field* '}'; by rule 11 there is no `~` in it
+    rule definition (says structRow) (when (query opensStruct) ∷ token name ∷ part typeParameters ∷ one leftBrace ∷ part fields ∷ one rightBrace ∷ []) ∷
     -- field = type IDENT?
     rule fields noRow (part field ∷ part fields ∷ []) ∷
     rule fields noRow [] ∷
@@ -129,7 +133,7 @@ productions17 =
     rule fieldName noRow (token name ∷ []) ∷
     rule fieldName noRow (unless anyName {- rule 5 -} ∷ []) ∷
     -- enum_decl = ':' '|' IDENT '{' enum_variant* '}'
-    rule definition (says enumRow) (mark bar ∷ token name ∷ mark leftBrace ∷ part variants ∷ mark rightBrace ∷ []) ∷
+    rule definition (says enumRow) (one bar ∷ token name ∷ one leftBrace ∷ part variants ∷ one rightBrace ∷ []) ∷
     -- enum_variant = IDENT type*
     rule variants noRow (part variant ∷ part variants ∷ []) ∷
     rule variants noRow [] ∷
@@ -138,41 +142,41 @@ productions17 =
     rule payloadTypes noRow [] ∷
     -- const_decl = ':' '~'? type IDENT literal
     rule definition (says constantRow) (unless (query opensStruct) ∷ part mutable ∷ part type ∷ token name ∷ part literal ∷ []) ∷
-    rule mutable noRow (mark tilde ∷ []) ∷
+    rule mutable noRow (one tilde ∷ []) ∷
     rule mutable noRow [] ∷
     -- trait_decl = '%' IDENT type_params? '{' ( fn_header | fn_decl )* '}'
     -- impl_decl = '%' IDENT type_params? type '{' fn_decl* '}'
     rule declaration noRow (part interface ∷ []) ∷
-    rule interface rowOf (mark percent ∷ token name ∷ part typeParameters ∷ part interfaceRest ∷ []) ∷
-    rule interfaceRest (says traitRow) (mark leftBrace ∷ part methods ∷ mark rightBrace ∷ []) ∷
-    rule interfaceRest (says implRow) (part type ∷ mark leftBrace ∷ part functions ∷ mark rightBrace ∷ []) ∷
+    rule interface rowOf (one percent ∷ token name ∷ part typeParameters ∷ part interfaceRest ∷ []) ∷
+    rule interfaceRest (says traitRow) (one leftBrace ∷ part methods ∷ one rightBrace ∷ []) ∷
+    rule interfaceRest (says implRow) (part type ∷ one leftBrace ∷ part functions ∷ one rightBrace ∷ []) ∷
     rule methods noRow (part method ∷ part methods ∷ []) ∷
     rule methods noRow [] ∷
     rule functions noRow (part function ∷ part functions ∷ []) ∷
     rule functions noRow [] ∷
     -- fn_header = '@' IDENT type_params? param* '→' type, which is a fn_decl without its block
-    rule method rowOf (mark at ∷ token name ∷ part typeParameters ∷ part parameters ∷ mark arrow ∷ part type ∷ part body ∷ []) ∷
+    rule method rowOf (one at ∷ token name ∷ part typeParameters ∷ part parameters ∷ one arrow ∷ part type ∷ part body ∷ []) ∷
     rule body (says functionRow) (part block ∷ []) ∷
     rule body (says headerRow) [] ∷
     -- block = '{' stmt* '}'
-    rule block (row blockRow) (mark leftBrace ∷ part statements ∷ mark rightBrace ∷ []) ∷
+    rule block (row blockRow) (one leftBrace ∷ part statements ∷ one rightBrace ∷ []) ∷
     rule statements noRow (part statement ∷ part statements ∷ []) ∷
     rule statements noRow [] ∷
-    -- stmt = let_stmt | set_stmt | defer_stmt | tilde_stmt | expr
+    -- stmt = let_stmt | set_stmt | defer_stmt | tilde_stmt | expr; rule 6 binds the way through expr too
     rule statement noRow (unless aTilde {- rule 6 -} ∷ part expression ∷ []) ∷
-    -- let_stmt = ':' '~'? type? IDENT expr
-    rule statement (row letRow) (mark colon ∷ part mutable ∷ part binding ∷ []) ∷
+    -- let_stmt = ':' '~'? type? IDENT expr; the leading IDENT of rule 3 is the one after a `~`, where there is one
+    rule statement (row letRow) (one colon ∷ part mutable ∷ part binding ∷ []) ∷
     rule binding noRow (unless plainName {- rule 3 -} ∷ part type ∷ token name ∷ part expression ∷ []) ∷
     rule binding noRow (when plainName {- rule 3 -} ∷ token name ∷ part expression ∷ []) ∷
     -- set_stmt = '=' IDENT expr | '=' '.' expr ( IDENT | INT | expr ) expr, by rule 9 the index is one expr
-    rule statement rowOf (mark equal ∷ part assignment ∷ []) ∷
+    rule statement rowOf (one equal ∷ part assignment ∷ []) ∷
     rule assignment (says setNameRow) (token name ∷ part expression ∷ []) ∷
-    rule assignment (says setElementRow) (mark dot ∷ part expression ∷ part expression ∷ part expression ∷ []) ∷
+    rule assignment (says setElementRow) (one dot ∷ part expression ∷ part expression ∷ part expression ∷ []) ∷
     -- defer_stmt = ';' block
-    rule statement (row deferRow) (mark semicolon ∷ part block ∷ []) ∷
+    rule statement (row deferRow) (one semicolon ∷ part block ∷ []) ∷
     -- tilde_stmt = loop_stmt | foreach_stmt | complement_expr
     -- foreach_stmt = '~' IDENT expr block; loop_stmt = '~' expr block; complement_expr = '~' expr
-    rule statement rowOf (mark tilde ∷ part tildeStatement ∷ []) ∷
+    rule statement rowOf (one tilde ∷ part tildeStatement ∷ []) ∷
     rule tildeStatement (says foreachRow) (when (query twoNames) {- rule 6 -} ∷ token name ∷ part expression ∷ part block ∷ []) ∷
     rule tildeStatement noRow (unless (query twoNames) {- rule 6 -} ∷ part expression ∷ part loopOrComplement ∷ []) ∷
     rule loopOrComplement (says whileRow) (part block ∷ []) ∷
@@ -184,46 +188,46 @@ productions17 =
     -- bin_expr = BIN_OP expr expr
     rule expression (row binaryRow) (token operators ∷ part expression ∷ part expression ∷ []) ∷
     -- not_expr = '!' expr; ret_expr = '^' expr; complement_expr = '~' expr
-    rule expression (row notRow) (mark bang ∷ part expression ∷ []) ∷
-    rule expression (row returnRow) (mark caret ∷ part expression ∷ []) ∷
-    rule expression (row complementRow) (mark tilde ∷ part expression ∷ []) ∷
+    rule expression (row notRow) (one bang ∷ part expression ∷ []) ∷
+    rule expression (row returnRow) (one caret ∷ part expression ∷ []) ∷
+    rule expression (row complementRow) (one tilde ∷ part expression ∷ []) ∷
     -- try_expr = '\\' expr; closure_expr = '\\' param* '→' type block
-    rule expression rowOf (mark backslash ∷ part tryOrClosure ∷ []) ∷
+    rule expression rowOf (one backslash ∷ part tryOrClosure ∷ []) ∷
     rule tryOrClosure (says tryRow) (unless (query opensClosure) {- rule 7 -} ∷ part expression ∷ []) ∷
-    rule tryOrClosure (says closureRow) (when (query opensClosure) {- rule 7 -} ∷ part parameters ∷ mark arrow ∷ part type ∷ part block ∷ []) ∷
+    rule tryOrClosure (says closureRow) (when (query opensClosure) {- rule 7 -} ∷ part parameters ∷ one arrow ∷ part type ∷ part block ∷ []) ∷
     -- sizeof_expr = 'Z' type
-    rule expression (row sizeofRow) (mark sizeof ∷ part type ∷ []) ∷
+    rule expression (row sizeofRow) (one sizeof ∷ part type ∷ []) ∷
     -- cond_expr = '?' expr expr expr
-    rule expression (row conditionalRow) (mark question ∷ part expression ∷ part expression ∷ part expression ∷ []) ∷
+    rule expression (row conditionalRow) (one question ∷ part expression ∷ part expression ∷ part expression ∷ []) ∷
     -- block_expr = '{' stmt* '}'
     rule expression noRow (part block ∷ []) ∷
-    -- call_expr = '(' IDENT ( '[' IDENT+ ']' )? expr* ')'
-    rule expression (row callRow) (mark leftParen ∷ token name ∷ part typeArguments ∷ part expressions ∷ mark rightParen ∷ []) ∷
+    -- call_expr = '(' IDENT ( '[' IDENT+ ']' )? expr* ')'; by rule 2 the list is of IDENT, `T`, `F` and keywords
+    rule expression (row callRow) (one leftParen ∷ token name ∷ part typeArguments ∷ part expressions ∷ one rightParen ∷ []) ∷
     rule typeArguments noRow (when (query opensWords) {- rule 2 -} ∷ part wordList ∷ []) ∷
     rule typeArguments noRow (unless (query opensWords) {- rule 2 -} ∷ []) ∷
-    rule wordList (row listRow) (mark leftBracket ∷ token word ∷ part moreWords ∷ mark rightBracket ∷ []) ∷
+    rule wordList (row listRow) (one leftBracket ∷ token word ∷ part moreWords ∷ one rightBracket ∷ []) ∷
     rule moreWords noRow (token word ∷ part moreWords ∷ []) ∷
     rule moreWords noRow [] ∷
     rule expressions noRow (part expression ∷ part expressions ∷ []) ∷
     rule expressions noRow [] ∷
     -- slice_literal = '[' type '|' expr* ']'
-    rule expression (row sliceRow) (mark leftBracket ∷ part type ∷ mark bar ∷ part expressions ∷ mark rightBracket ∷ []) ∷
+    rule expression (row sliceRow) (one leftBracket ∷ part type ∷ one bar ∷ part expressions ∷ one rightBracket ∷ []) ∷
     -- agg_expr = '@' type '{' expr* '}'
-    rule expression (row aggregateRow) (mark at ∷ part type ∷ mark leftBrace ∷ part expressions ∷ mark rightBrace ∷ []) ∷
+    rule expression (row aggregateRow) (one at ∷ part type ∷ one leftBrace ∷ part expressions ∷ one rightBrace ∷ []) ∷
     -- member_expr = '.' expr ( IDENT | INT | expr ), by rule 9 the index is one expr
-    rule expression (row memberRow) (mark dot ∷ part expression ∷ part expression ∷ []) ∷
-    -- cast_expr = '#' type expr [ INT ]
-    rule expression (row castRow) (mark hash ∷ part castRest ∷ []) ∷
+    rule expression (row memberRow) (one dot ∷ part expression ∷ part expression ∷ []) ∷
+    -- cast_expr = '#' type expr [ INT ]; a pointer type has `*` outermost, and the INT, `0` or `1`, is a literal row
+    rule expression (row castRow) (one hash ∷ part castRest ∷ []) ∷
     rule castRest noRow (when aStar {- rule 8 -} ∷ part type ∷ part expression ∷ part selector ∷ []) ∷
     rule castRest noRow (unless aStar {- rule 8 -} ∷ part type ∷ part expression ∷ []) ∷
     rule selector noRow (when (query zeroOrOne) {- rule 8 -} ∷ part literal ∷ []) ∷
     rule selector noRow (unless (query zeroOrOne) {- rule 8 -} ∷ []) ∷
     -- match_expr = '??' expr '{' match_arm* '}'
-    rule expression (row matchRow) (mark questionQuestion ∷ part expression ∷ mark leftBrace ∷ part arms ∷ mark rightBrace ∷ []) ∷
+    rule expression (row matchRow) (one questionQuestion ∷ part expression ∷ one leftBrace ∷ part arms ∷ one rightBrace ∷ []) ∷
     rule arms noRow (part arm ∷ part arms ∷ []) ∷
     rule arms noRow [] ∷
     -- match_arm = ( IDENT | BOOL | '_' ) match_payload* '→' expr, by rule 10 with zero to three payloads
-    rule arm (row armRow) (token armHead ∷ part payloads3 ∷ mark arrow ∷ part expression ∷ []) ∷
+    rule arm (row armRow) (token armHead ∷ part payloads3 ∷ one arrow ∷ part expression ∷ []) ∷
     rule payloads3 noRow (part payload ∷ part payloads2 ∷ []) ∷
     rule payloads3 noRow [] ∷
     rule payloads2 noRow (part payload ∷ part payloads1 ∷ []) ∷
@@ -234,16 +238,16 @@ productions17 =
     rule payload (row payloadRow) (token payloadToken ∷ []) ∷
     -- type = base_type | ptr_type | opt_type | slice_type | res_type | fn_type | generic_inst | IDENT
     -- base_type = 'i' | 'u' | 'f' | 'b' | 's' | 'v'
-    rule type (row baseTypeRow) (mark keyword ∷ []) ∷
+    rule type (row baseTypeRow) (one keyword ∷ []) ∷
     -- ptr_type = '*' type; opt_type = '?' type; slice_type = '[' type; res_type = '!' type type
-    rule type (row pointerRow) (mark star ∷ part type ∷ []) ∷
-    rule type (row optionalRow) (mark question ∷ part type ∷ []) ∷
-    rule type (row sliceTypeRow) (mark leftBracket ∷ part type ∷ []) ∷
-    rule type (row resultRow) (mark bang ∷ part type ∷ part type ∷ []) ∷
-    -- fn_type = '(' '@' type type* ')'; generic_inst = '(' IDENT IDENT+ ')'
-    rule type rowOf (mark leftParen ∷ part parenthesized ∷ []) ∷
-    rule parenthesized (says functionTypeRow) (mark at ∷ part type ∷ part types ∷ mark rightParen ∷ []) ∷
-    rule parenthesized (says instanceRow) (token name ∷ token word ∷ part moreWords ∷ mark rightParen ∷ []) ∷
+    rule type (row pointerRow) (one star ∷ part type ∷ []) ∷
+    rule type (row optionalRow) (one question ∷ part type ∷ []) ∷
+    rule type (row sliceTypeRow) (one leftBracket ∷ part type ∷ []) ∷
+    rule type (row resultRow) (one bang ∷ part type ∷ part type ∷ []) ∷
+    -- fn_type = '(' '@' type type* ')'; generic_inst = '(' IDENT IDENT+ ')', by rule 2 after the first IDENT also `T`, `F`, keywords
+    rule type rowOf (one leftParen ∷ part parenthesized ∷ []) ∷
+    rule parenthesized (says functionTypeRow) (one at ∷ part type ∷ part types ∷ one rightParen ∷ []) ∷
+    rule parenthesized (says instanceRow) (token name ∷ token word ∷ part moreWords ∷ one rightParen ∷ []) ∷
     rule types noRow (part type ∷ part types ∷ []) ∷
     rule types noRow [] ∷
     -- a named type: by rule 1 any IDENT, `T` or `F`

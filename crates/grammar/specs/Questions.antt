@@ -10,9 +10,9 @@ use Rattle.typenames.specs.TypeNames.{Item}
 
 pub data Piece : Type 0 where
   -- a token of one of these kinds
-  one : List ℕ → Piece
+  oneOf : List ℕ → Piece
   -- one or more tokens of these kinds, as many as there are
-  some : List ℕ → Piece
+  someOf : List ℕ → Piece
   -- a token of this kind with one of these texts
   spelled : ℕ → List (List ℕ) → Piece
 
@@ -31,9 +31,9 @@ runOf ks (t ∷ ts) =
 -- whether tokens begin as a pattern says
 unfoldable pub fits : List Piece → List Item → Bool
 fits [] ts = true
-fits (one ks ∷ ps) [] = false
-fits (one ks ∷ ps) (t ∷ ts) = and (among ks (t .kind)) (fits ps ts)
-fits (some ks ∷ ps) ts = and (ltb 0 (runOf ks ts)) (fits ps (drop (runOf ks ts) ts))
+fits (oneOf ks ∷ ps) [] = false
+fits (oneOf ks ∷ ps) (t ∷ ts) = and (among ks (t .kind)) (fits ps ts)
+fits (someOf ks ∷ ps) ts = and (ltb 0 (runOf ks ts)) (fits ps (drop (runOf ks ts) ts))
 fits (spelled k texts ∷ ps) [] = false
 fits (spelled k texts ∷ ps) (t ∷ ts) = and (and (eqb k (t .kind)) (isText texts (t .text))) (fits ps ts)
 

@@ -1,12 +1,13 @@
--- The leftmost reading: from the first token on, always the production that the next token can begin, else the one that may
--- derive no token.
+-- The leftmost reading: from the first token on, always the production that the next token can begin and whose conditions at the
+-- front are met, else the one that may derive no token. If several would do, it is the first of the table; that there are none
+-- such is tested (`exclusive` in proofs/).
 use Prim.Native.Nat.{ℕ, zero, suc, _+_, _*_}
 use mathlib.Core.Bool.{Bool, true}
 use mathlib.Core.List.{List, [], _∷_, _++_}
 use lib.Dec.{eqb}
 use lib.ListN.{length}
 use Rattle.lexer.specs.Tests.{and, pick, among}
-use Rattle.grammar.specs.Grammars.{endOfTokens, next, Symbol, token, part, condition, when, Gives}
+use Rattle.grammar.specs.Grammars.{endOfTokens, next, Symbol, token, part, condition, when, Makes}
 use Rattle.grammar.specs.Grammars.{Production, Names, View, met}
 use Rattle.grammar.specs.Rows.{Row, made, passed, firstSaid, levels}
 use Rattle.grammar.specs.First.{canBegin, canSkip}
@@ -16,7 +17,7 @@ pub data Outcome : Type 0 where
   ok : ℕ → List Row → ℕ → Outcome
   -- a token that cannot be taken: refusal 6
   stuck : ℕ → Outcome
-  -- a token that can begin the row called for, where no level is left: refusal 7
+  -- a token where a row is called for and no level is left: refusal 7
   deep : ℕ → Outcome
   -- the fuel is spent
   spent : Outcome
@@ -69,11 +70,11 @@ descend (suc l) (suc left) i below = descend l left i below
 
 unfoldable pub enter : Choice → ℕ → ℕ → (Production → ℕ → Outcome) → Outcome
 enter none left i within = stuck i
-enter (one p) left i within = descend (levels (p .gives)) left i (within p)
+enter (one p) left i within = descend (levels (p .makes)) left i (within p)
 
 -- a production read from i to j, and what comes after it
-unfoldable pub joined : Gives → ℕ → ℕ → List Row → ℕ → ℕ → List Row → ℕ → Outcome
-joined gives i j inner said k rest later = ok k (made gives i j said inner ++ rest) (firstSaid (passed gives said) later)
+unfoldable pub joined : Makes → ℕ → ℕ → List Row → ℕ → ℕ → List Row → ℕ → Outcome
+joined makes i j inner said k rest later = ok k (made makes i j said inner ++ rest) (firstSaid (passed makes said) later)
 
 -- `readWithin g v fuel e n ss i`: the symbols ss from token i on, under the names e and with n levels left
 unfoldable pub readWithin : List Production → View → ℕ → Names → ℕ → List Symbol → ℕ → Outcome
@@ -88,9 +89,9 @@ readWithin g v (suc fuel) e n (condition b q ∷ ss) i =
 readWithin g v (suc fuel) e n (part x ∷ ss) i =
     enter (choice g v (v .inside x i e) x i) n i (λ (p : Production) (below : ℕ).
     onward (readWithin g v fuel (v .inside x i e) below (p .right) i) (λ (j : ℕ) (inner : List Row) (said : ℕ).
-    onward (readWithin g v fuel e n ss j) (joined (p .gives) i j inner said)))
+    onward (readWithin g v fuel e n ss j) (joined (p .makes) i j inner said)))
 
--- the symbols of a table, and one for each production: while no token is taken, no symbol is met twice
+-- the symbols of a table, and one for each production
 unfoldable pub breadth : List Production → ℕ
 breadth [] = 0
 breadth (p ∷ ps) = suc (length (p .right)) + breadth ps
@@ -99,7 +100,7 @@ breadth (p ∷ ps) = suc (length (p .right)) + breadth ps
 abbrev pub whole : ℕ → List Symbol
 whole x = part x ∷ when (next (endOfTokens ∷ [])) ∷ []
 
--- The reading of a token list of so many tokens, under the names e and with n levels. Its fuel always suffices (`never-spent` in
--- proofs/).
+-- The reading of a token list of so many tokens, under the names e and with n levels. Its fuel is any that suffices: for a table
+-- that passes the tests it is never spent (`never-spent` in proofs/), and more changes nothing (`more-fuel`).
 unfoldable pub reading : List Production → View → ℕ → Names → ℕ → ℕ → Outcome
 reading g v count e n x = readWithin g v (suc count * suc (breadth g)) e n (whole x) 0

@@ -2,7 +2,7 @@
 use Prim.Native.Nat.{ℕ, zero, suc, _-_}
 use mathlib.Core.List.{List, _∷_}
 use lib.ListN.{length}
-use Rattle.grammar.specs.Grammars.{Gives, row, rowOf, says, noRow}
+use Rattle.grammar.specs.Grammars.{Makes, row, rowOf, says, noRow}
 
 -- "kind, first token, tokens covered, rows in the subtree with itself"
 pub record Row : Type 0 where
@@ -16,14 +16,14 @@ abbrev pub above : ℕ → ℕ → ℕ → List Row → List Row
 above kind i j children = record { kind = kind; first = i; cover = j - i; count = suc (length children) } ∷ children
 
 -- the rows of a production from token i to token j, given the kind that its parts say and their rows
-unfoldable pub made : Gives → ℕ → ℕ → ℕ → List Row → List Row
+unfoldable pub made : Makes → ℕ → ℕ → ℕ → List Row → List Row
 made (row kind) i j said rows = above kind i j rows
 made rowOf i j said rows = above said i j rows
 made (says kind) i j said rows = rows
 made noRow i j said rows = rows
 
 -- the kind that a production says for the row that it is a part of, 0 if none
-unfoldable pub passed : Gives → ℕ → ℕ
+unfoldable pub passed : Makes → ℕ → ℕ
 passed (row kind) said = 0
 passed rowOf said = 0
 passed (says kind) said = kind
@@ -35,7 +35,7 @@ firstSaid zero later = later
 firstSaid (suc said) later = suc said
 
 -- the levels that a production takes: "a child is its parent's level plus one"
-unfoldable pub levels : Gives → ℕ
+unfoldable pub levels : Makes → ℕ
 levels (row kind) = 1
 levels rowOf = 1
 levels (says kind) = 0

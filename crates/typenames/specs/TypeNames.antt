@@ -32,7 +32,8 @@ unfoldable pub enumName : Item → Item → Item → List (List ℕ)
 enumName a b c =
     pick (and (eqb (a .kind) colon) (and (eqb (b .kind) bar) (eqb (c .kind) ident))) (c .text ∷ []) []
 
--- the second of three tokens, where they are `:` IDENT and one of the kinds that open a struct
+-- the second of three tokens, where they are `:` IDENT and one of some kinds; nothing is asked of what follows, so that `: Foo [`
+-- counts without a list after it
 unfoldable pub structName : List ℕ → Item → Item → Item → List (List ℕ)
 structName opening a b c =
     pick (and (eqb (a .kind) colon) (and (eqb (b .kind) ident) (among opening (c .kind)))) (b .text ∷ []) []
@@ -41,7 +42,7 @@ structName opening a b c =
 unfoldable pub deeper : ℕ → ℕ → ℕ
 deeper depth kind = pick (eqb kind leftBrace) (suc depth) (pick (eqb kind rightBrace) (depth - 1) depth)
 
--- what three tokens declare at a depth: "at brace depth zero"
+-- what three tokens declare, the first of them at a depth: "at brace depth zero"; the tokens before the IDENT are no braces
 unfoldable pub namesAt : List ℕ → ℕ → Item → Item → Item → List (List ℕ)
 namesAt opening zero a b c = structName opening a b c ++ enumName a b c
 namesAt opening (suc depth) a b c = []
@@ -55,7 +56,7 @@ declared opening depth (a ∷ b ∷ []) = []
 declared opening depth (a ∷ b ∷ c ∷ ts) =
     namesAt opening depth a b c ++ declared opening (deeper depth (a .kind)) (b ∷ c ∷ ts)
 
--- The set N (document 01, "Type names of a source"): "the extra names" and the names declared in the whole token list. The kinds
--- that open a struct are `{` and `[` in grammar 1.7.
+-- The set N (document 01, "Type names of a source"): "the extra names" and the names declared in the whole token list. In grammar
+-- 1.7 the kinds after a struct's name are `{` and `[`.
 unfoldable pub typeNames : List ℕ → List (List ℕ) → List Item → List (List ℕ)
 typeNames opening extra ts = extra ++ declared opening zero ts

@@ -22,9 +22,10 @@ use Rattle.grammar.specs.Rows.{Row}
 use Rattle.grammar.specs.Reading.{Outcome, ok, stuck, deep, spent}
 use Rattle.grammar.specs.Languages.{Language}
 use Rattle.grammar.specs.TreeTable.{treeRoom, placed, cleared}
-use Rattle.grammar.specs.Answers.{readTokens, Verdict, before, after, accept, judged, scannedTokens, checkedNames, verdict}
+use Rattle.grammar.specs.Sources.{DerivationOf, readTokens}
+use Rattle.grammar.specs.Answers.{Verdict, early, late, accept, judged, scannedTokens, checkedNames, verdict}
 use Rattle.grammar.specs.Answers.{Result, result, answered}
-use Rattle.grammar.specs.Demands.{DerivationOf, Readable, Room, Refusal, too-long, bad-names, bad-byte, open-string}
+use Rattle.grammar.specs.Demands.{Readable, Room, Refusal, too-long, bad-names, bad-byte, open-string}
 use Rattle.grammar.specs.Demands.{few-token-rows, no-program, too-deep, few-tree-rows, Acceptance, Demands}
 use Rattle.grammar.specs.declared.Answer.the-variants.{Accepted, Refused}
 use Rattle.grammar.proofs.Laws.Sources.{Fit, ReadAs, read-as, read-sound, read-complete, read-same, read-stuck, read-deep}
@@ -33,9 +34,9 @@ use Rattle.grammar.proofs.Laws.Sources.{read-unspent}
 -- what a verdict says, in the words of the demands
 module _ (l : Language) (source names : List ℕ) (limit : ℕ) (tokens rows : List ℕ) where
   data Found : Verdict → Type 0 where
-    found-before : {number place : ℕ} → Refusal l source names limit tokens rows number place tokens rows → Found (before number place)
-    found-after : {number place : ℕ} {ts : List Token}
-        → Refusal l source names limit tokens rows number place (filled ts tokens) (cleared rows) → Found (after number place ts)
+    found-early : {number place : ℕ} → Refusal l source names limit tokens rows number place tokens rows → Found (early number place)
+    found-late : {number place : ℕ} {ts : List Token}
+        → Refusal l source names limit tokens rows number place (filled ts tokens) (cleared rows) → Found (late number place ts)
     found-accept : {ts : List Token} {rs : List Row} → Readable l source names ts → length ts ≤ tokenRoom tokens
         → length rs ≤ treeRoom rows → DerivationOf l source names ts limit rs → Found (accept ts rs)
 
@@ -43,29 +44,29 @@ module _ (l : Language) (source names : List ℕ) (limit : ℕ) (tokens rows : L
     -- No. 6 to 8
     found-rows : (ts : List Token) (rs : List Row) → Readable l source names ts → length ts ≤ tokenRoom tokens
         → DerivationOf l source names ts limit rs → (t : Bool) → leb (length rs) (treeRoom rows) ≡ t
-        → Found (pick t (accept ts rs) (after 8 (length rs) ts))
+        → Found (pick t (accept ts rs) (late 8 (length rs) ts))
     found-rows ts rs r room d true t = found-accept r room (leb-true (length rs) (treeRoom rows) t) d
-    found-rows ts rs r room d false t = found-after (few-tree-rows r room d (leb-false (length rs) (treeRoom rows) t))
+    found-rows ts rs r room d false t = found-late (few-tree-rows r room d (leb-false (length rs) (treeRoom rows) t))
 
     found-judged : (ts : List Token) → Readable l source names ts → length ts ≤ tokenRoom tokens
         → (o : Outcome) → readTokens l limit source names ts ≡ o → Found (judged (treeRoom rows) ts o)
     unfolding judged
     found-judged ts r room (ok j rs said) h =
         found-rows ts rs r room (read-sound l fit source names ts (r .scans) limit j said rs h .1) (leb (length rs) (treeRoom rows)) refl
-    found-judged ts r room (stuck i) h = found-after (no-program r room h)
-    found-judged ts r room (deep i) h = found-after (too-deep r room h)
+    found-judged ts r room (stuck i) h = found-late (no-program r room h)
+    found-judged ts r room (deep i) h = found-late (too-deep r room h)
     found-judged ts r room spent h = absurd (read-unspent l fit source names ts (r .scans) limit h)
 
     -- No. 3 to 5
     found-tokens : (ts : List Token) → Readable l source names ts → (t : Bool) → leb (length ts) (tokenRoom tokens) ≡ t
-        → Found (pick t (judged (treeRoom rows) ts (readTokens l limit source names ts)) (before 5 (length ts)))
+        → Found (pick t (judged (treeRoom rows) ts (readTokens l limit source names ts)) (early 5 (length ts)))
     found-tokens ts r true t = found-judged ts r (leb-true (length ts) (tokenRoom tokens) t) (readTokens l limit source names ts) refl
-    found-tokens ts r false t = found-before (few-token-rows r (leb-false (length ts) (tokenRoom tokens) t))
+    found-tokens ts r false t = found-early (few-token-rows r (leb-false (length ts) (tokenRoom tokens) t))
 
     fault-by : {A B : Type 0} (number place : ℕ) → length source ≤ sourceLimit → checked (l .lexical) names ≡ Good
-        → scan (l .lexical) source ≡ fault number place → ((number ≡ 3) × A) ⊎ ((number ≡ 4) × B) → Found (before number place)
-    fault-by number place within good h (inl (three, b)) = rw three (found-before (bad-byte within good (rw three at h)))
-    fault-by number place within good h (inr (four, b)) = rw four (found-before (open-string within good (rw four at h)))
+        → scan (l .lexical) source ≡ fault number place → ((number ≡ 3) × A) ⊎ ((number ≡ 4) × B) → Found (early number place)
+    fault-by number place within good h (inl (three, b)) = rw three (found-early (bad-byte (record { within = within; good = good }) (rw three at h)))
+    fault-by number place within good h (inr (four, b)) = rw four (found-early (open-string (record { within = within; good = good }) (rw four at h)))
 
     found-scan : length source ≤ sourceLimit → checked (l .lexical) names ≡ Good → (s : Scan) → scan (l .lexical) source ≡ s
         → Found (scannedTokens l limit source names (tokenRoom tokens) (treeRoom rows) s)
@@ -73,7 +74,7 @@ module _ (l : Language) (source names : List ℕ) (limit : ℕ) (tokens rows : L
     found-scan within good (fault number place) h =
         fault-by number place within good h (fault-placed (l .lexical) (fit .marks) source number place h .reason)
     found-scan within good (clean ts) h =
-        found-tokens ts (record { within = within; good = good; scans = h }) (leb (length ts) (tokenRoom tokens)) refl
+        found-tokens ts (record { admitted = record { within = within; good = good }; scans = h }) (leb (length ts) (tokenRoom tokens)) refl
 
     -- No. 2
     found-names : length source ≤ sourceLimit → (c : Checked) → checked (l .lexical) names ≡ c
@@ -82,13 +83,13 @@ module _ (l : Language) (source names : List ℕ) (limit : ℕ) (tokens rows : L
     found-names within Good h = found-scan within h (scan (l .lexical) source) refl
     found-names within (Checked.Refused number place) h =
         let two = checked-two (l .lexical) names number place h in
-        rw two (found-before (bad-names within (rw two at h)))
+        rw two (found-early (bad-names within (rw two at h)))
 
     -- No. 1
     found-by : (t : Bool) → ltb sourceLimit (length source) ≡ t
-        → Found (pick t (before 1 0) (checkedNames (checked (l .lexical) names)
+        → Found (pick t (early 1 0) (checkedNames (checked (l .lexical) names)
         (scannedTokens l limit source names (tokenRoom tokens) (treeRoom rows) (scan (l .lexical) source))))
-    found-by true t = found-before (too-long (ltb-true sourceLimit (length source) t))
+    found-by true t = found-early (too-long (ltb-true sourceLimit (length source) t))
     found-by false t = found-names (ltb-false sourceLimit (length source) t) (checked (l .lexical) names) refl
 
     found : Found (verdict l limit source names (tokenRoom tokens) (treeRoom rows))
@@ -113,17 +114,17 @@ module _ (l : Language) (source names : List ℕ) (limit : ℕ) (tokens rows : L
         → verdict l limit source names (tokenRoom tokens) (treeRoom rows) ≡ judged (treeRoom rows) ts o
     unfolding scannedTokens
     verdict-read ts r room o h =
-        verdict-good (r .within) (r .good) (clean ts) (r .scans) ∙ rw (le-leb (length ts) (tokenRoom tokens) room, h)
+        verdict-good (r .admitted .within) (r .admitted .good) (clean ts) (r .scans) ∙ rw (le-leb (length ts) (tokenRoom tokens) room, h)
 
     verdict-derived : (ts : List Token) (rs : List Row) → Readable l source names ts → length ts ≤ tokenRoom tokens
         → DerivationOf l source names ts limit rs
         → verdict l limit source names (tokenRoom tokens) (treeRoom rows)
-        ≡ pick (leb (length rs) (treeRoom rows)) (accept ts rs) (after 8 (length rs) ts)
+        ≡ pick (leb (length rs) (treeRoom rows)) (accept ts rs) (late 8 (length rs) ts)
     unfolding judged
     verdict-derived ts rs r room d = cases (read-complete l fit source names ts (r .scans) limit rs d)
       where
         cases : ReadAs (readTokens l limit source names ts) (length ts) rs → verdict l limit source names (tokenRoom tokens) (treeRoom rows)
-            ≡ pick (leb (length rs) (treeRoom rows)) (accept ts rs) (after 8 (length rs) ts)
+            ≡ pick (leb (length rs) (treeRoom rows)) (accept ts rs) (late 8 (length rs) ts)
         cases (read-as {said = said} h) = verdict-read ts r room (ok (length ts) rs said) h
 
     -- a refusal of document 01's table is the verdict, and gives the tables that it says
@@ -133,10 +134,10 @@ module _ (l : Language) (source names : List ℕ) (limit : ℕ) (tokens rows : L
     unfolding answered result scannedTokens judged checkedNames verdict
     refusal-result number place ta ra (too-long long) = rw (lt-ltb sourceLimit (length source) long)
     refusal-result number place ta ra (bad-names within h) = rw (verdict-within within, h)
-    refusal-result number place ta ra (bad-byte within good h) = rw (verdict-good within good (fault 3 place) h)
-    refusal-result number place ta ra (open-string within good h) = rw (verdict-good within good (fault 4 place) h)
+    refusal-result number place ta ra (bad-byte a h) = rw (verdict-good (a .within) (a .good) (fault 3 place) h)
+    refusal-result number place ta ra (open-string a h) = rw (verdict-good (a .within) (a .good) (fault 4 place) h)
     refusal-result number place ta ra (few-token-rows {ts = ts} r few) =
-        rw (verdict-good (r .within) (r .good) (clean ts) (r .scans), lt-leb (length ts) (tokenRoom tokens) few)
+        rw (verdict-good (r .admitted .within) (r .admitted .good) (clean ts) (r .scans), lt-leb (length ts) (tokenRoom tokens) few)
     refusal-result number place ta ra (no-program {ts = ts} r room h) = rw (verdict-read ts r room (stuck place) h)
     refusal-result number place ta ra (too-deep {ts = ts} r room h) = rw (verdict-read ts r room (deep place) h)
     refusal-result number place ta ra (few-tree-rows {ts = ts} {rs = rs} r room d few) =
@@ -158,8 +159,8 @@ module _ (l : Language) (source names : List ℕ) (limit : ℕ) (tokens rows : L
         → (ts : List Token) → Readable l source names ts → (n : ℕ) (rs : List Row) → DerivationOf l source names ts n rs → ⊥
     six-none number place ta ra (too-long long) six ts k n rs d = absurd (omega arith)
     six-none number place ta ra (bad-names within h) six ts k n rs d = absurd (omega arith)
-    six-none number place ta ra (bad-byte within good h) six ts k n rs d = absurd (omega arith)
-    six-none number place ta ra (open-string within good h) six ts k n rs d = absurd (omega arith)
+    six-none number place ta ra (bad-byte a h) six ts k n rs d = absurd (omega arith)
+    six-none number place ta ra (open-string a h) six ts k n rs d = absurd (omega arith)
     six-none number place ta ra (few-token-rows r few) six ts k n rs d = absurd (omega arith)
     six-none number place ta ra (no-program {ts = us} r room h) six ts k n rs d =
         read-stuck l fit source names us (r .scans) limit place n rs h
@@ -171,8 +172,8 @@ module _ (l : Language) (source names : List ℕ) (limit : ℕ) (tokens rows : L
         → (ts : List Token) → Readable l source names ts → (rs : List Row) → DerivationOf l source names ts limit rs → ⊥
     seven-none number place ta ra (too-long long) seven ts k rs d = absurd (omega arith)
     seven-none number place ta ra (bad-names within h) seven ts k rs d = absurd (omega arith)
-    seven-none number place ta ra (bad-byte within good h) seven ts k rs d = absurd (omega arith)
-    seven-none number place ta ra (open-string within good h) seven ts k rs d = absurd (omega arith)
+    seven-none number place ta ra (bad-byte a h) seven ts k rs d = absurd (omega arith)
+    seven-none number place ta ra (open-string a h) seven ts k rs d = absurd (omega arith)
     seven-none number place ta ra (few-token-rows r few) seven ts k rs d = absurd (omega arith)
     seven-none number place ta ra (no-program r room h) seven ts k rs d = absurd (omega arith)
     seven-none number place ta ra (too-deep {ts = us} r room h) seven ts k rs d =
@@ -184,11 +185,11 @@ module _ (l : Language) (source names : List ℕ) (limit : ℕ) (tokens rows : L
     refused-by : (w : Verdict) → Found w → (number place : ℕ) → result w tokens rows .answer ≡ Refused number place
         → Refusal l source names limit tokens rows number place (result w tokens rows .tokens) (result w tokens rows .rows)
     unfolding result
-    refused-by w (found-before {number = n} {place = p} r) number place h =
+    refused-by w (found-early {number = n} {place = p} r) number place h =
         let same : n ≡ number = cc in
         let at : p ≡ place = cc in
         rw (← same, ← at) r
-    refused-by w (found-after {number = n} {place = p} r) number place h =
+    refused-by w (found-late {number = n} {place = p} r) number place h =
         let same : n ≡ number = cc in
         let at : p ≡ place = cc in
         rw (← same, ← at) r
@@ -197,8 +198,8 @@ module _ (l : Language) (source names : List ℕ) (limit : ℕ) (tokens rows : L
     accepted-by : (w : Verdict) → Found w → (t n : ℕ) → result w tokens rows .answer ≡ Accepted t n
         → Acceptance l source names limit tokens rows t n (result w tokens rows .tokens) (result w tokens rows .rows)
     unfolding result
-    accepted-by w (found-before r) t n h = let z : _≡_ {A = ℕ} 0 1 = cc in absurd (omega arith)
-    accepted-by w (found-after r) t n h = let z : _≡_ {A = ℕ} 0 1 = cc in absurd (omega arith)
+    accepted-by w (found-early r) t n h = let z : _≡_ {A = ℕ} 0 1 = cc in absurd (omega arith)
+    accepted-by w (found-late r) t n h = let z : _≡_ {A = ℕ} 0 1 = cc in absurd (omega arith)
     accepted-by w (found-accept {ts = ts} {rs = rs} r room space d) t n h = record {
       token-list = ts;
       row-list = rs;
@@ -211,7 +212,6 @@ module _ (l : Language) (source names : List ℕ) (limit : ℕ) (tokens rows : L
       };
       token-count = cc;
       token-table = refl;
-      every-byte = clean-cover (l .lexical) (fit .marks) source ts (r .scans);
       row-count = cc;
       row-table = refl;
       derived = d;
@@ -235,6 +235,7 @@ module _ (l : Language) (source names : List ℕ) (limit : ℕ) (tokens rows : L
     answered-demands = record {
       refused = refused-by (verdict l limit source names (tokenRoom tokens) (treeRoom rows)) found;
       refusal = refusal-result;
+      every-byte = λ (ts : List Token) (k : Readable l source names ts). clean-cover (l .lexical) (fit .marks) source ts (k .scans);
       accepted = accepted-by (verdict l limit source names (tokenRoom tokens) (treeRoom rows)) found;
       accepts = λ (ts : List Token) (rs : List Row) (k : Readable l source names ts) (room : Room l source names limit tokens rows ts)
           (d : DerivationOf l source names ts limit rs).
@@ -252,8 +253,8 @@ module _ (l : Language) (source names : List ℕ) (limit : ℕ) (tokens rows : L
     demands-answered r d = cases (verdict l limit source names (tokenRoom tokens) (treeRoom rows)) found
       where
         cases : (w : Verdict) → Found w → r ≡ result w tokens rows
-        cases w (found-before {number = number} {place = place} f) = d .refusal number place tokens rows f
-        cases w (found-after {number = number} {place = place} {ts = ts} f) = d .refusal number place (filled ts tokens) (cleared rows) f
+        cases w (found-early {number = number} {place = place} f) = d .refusal number place tokens rows f
+        cases w (found-late {number = number} {place = place} {ts = ts} f) = d .refusal number place (filled ts tokens) (cleared rows) f
         cases w (found-accept {ts = ts} {rs = rs} k room space e) =
             d .accepts ts rs k (record {
               for-tokens = room;

@@ -95,7 +95,7 @@ pub record Closed (g : List Production) (h : Hints) (bound : ℕ) : Type 0 where
 -- no production takes the end of the tokens for a token
 unfoldable pub noEnd : List Symbol → Bool
 noEnd [] = true
-noEnd (token cs ∷ ss) = and (agrees false (among cs 0)) (noEnd ss)
+noEnd (token cs ∷ ss) = and (agrees false (among cs endOfTokens)) (noEnd ss)
 noEnd (part x ∷ ss) = noEnd ss
 noEnd (condition b q ∷ ss) = noEnd ss
 
@@ -138,7 +138,7 @@ moreOf h (part x ∷ ss) = h .more x + moreOf h ss
 moreOf h (condition b q ∷ ss) = moreOf h ss
 
 unfoldable pub fewRows : Hints → Production → Bool
-fewRows h p = leb (levels (p .gives) + h .fewer (p .left) + moreOf h (p .right)) (fewerOf h (p .right) + h .more (p .left))
+fewRows h p = leb (levels (p .makes) + h .fewer (p .left) + moreOf h (p .right)) (fewerOf h (p .right) + h .more (p .left))
 
 -- all tests of a table whose start is x, where classes are below a bound
 pub record Passes (g : List Production) (h : Hints) (bound x : ℕ) : Type 0 where

@@ -59,7 +59,7 @@ module _ (g : List Production) (v : View) (h : Hints) (bound : ℕ) (good : Clos
       after f t (suc fuel) =
       let follow = part-followed g v h bound good steady x rest after f t in
       let within : h .follow x (v .class (v .inside x i e) j) ≡ true = rw (steady .follow-same x i e j follow) follow in
-      rw (taken-choice x p has of inner within, descend-below (levels (p .gives)) n left i _ fits)
+      rw (taken-choice x p has of inner within, descend-below (levels (p .makes)) n left i _ fits)
       (agrees-onward _ (complete inner (h .follow x) (flows-right g v h bound good steady p x has of) within fuel)
-      (agrees-onward (joined (p .gives) i j rows said)
+      (agrees-onward (joined (p .makes) i j rows said)
       (complete rest after (flows-rest g v h bound good steady after (part x) ss f) t fuel) same))

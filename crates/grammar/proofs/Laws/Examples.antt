@@ -14,9 +14,10 @@ use Rattle.grammar.specs.First.{allows, skips, starts, anyOf, emptyWithi
 use Rattle.grammar.specs.Reading.{ready, find, orElse, choice, onward, descend, enter, joined, readWithin, breadth, reading}
 use Rattle.grammar.specs.Questions.{isText, runOf, fits, fitsOne, answerTo}
 use Rattle.grammar.specs.Nurl.{questions17, productions17}
-use Rattle.grammar.specs.Languages.{language17, classOf, view}
+use Rattle.grammar.specs.Languages.{classOf, view}
+use Rattle.grammar.specs.Sources.{readTokens}
 use Rattle.grammar.specs.TreeTable.{treeRows, placed, cleared}
-use Rattle.grammar.specs.Answers.{levelLimit, readTokens, judged, scannedTokens, checkedNames, verdict, Result, result, answered}
+use Rattle.grammar.specs.Answers.{judged, scannedTokens, checkedNames, verdict, Result, result, answered, answer17}
 use Rattle.grammar.specs.Examples.{lentTokens, lentRows, Example, resultOf, examples}
 
 -- the answer, opened down to its parts: whoever computes with it unfolds this one name
@@ -26,7 +27,7 @@ unfolding and or same asName sameName twoColons tokenRows filled scans push spli
     allows skips starts anyOf emptyWithin firstWithin empty first canBegin canSkip ready find orElse choice onward descend enter
     joined readWithin breadth reading isText runOf fits fitsOne answerTo questions17 productions17 classOf view treeRows
     placed cleared readTokens judged scannedTokens checkedNames verdict result answered lentTokens lentRows
-answersTo x = answered language17 levelLimit (x .source) (x .names) lentTokens lentRows
+answersTo x = answer17 (x .source) (x .names) lentTokens lentRows
 
 pub examples-hold : map answersTo examples ≡ map (λ x. resultOf (x .expected)) examples
 unfolding answersTo resultOf examples

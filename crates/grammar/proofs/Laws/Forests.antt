@@ -2,17 +2,17 @@
 -- there are at most two for each token and one more. Assumes nothing.
 use Prim.Native.Nat.{ℕ, suc, _+_, _*_, _-_, _≤_}
 use mathlib.Core.Path.{_≡_, refl}
-use mathlib.Core.Bool.{Bool, true}
+use mathlib.Core.Bool.{true}
 use mathlib.Core.List.{List, [], _∷_, _++_, append-nil, append-assoc}
 use native.Mathlib.Nat.{suc-add, zero-add}
 use native.Mathlib.Omega.{arith}
 use lib.ListN.{length, length-append}
 use borrow.Author.Tests.{leb-true}
-use Rattle.lexer.proofs.Laws.Tests.{and-left, and-right}
-use Rattle.grammar.specs.Grammars.{Symbol, part, Gives, row, rowOf, says, noRow, Production, Names, View}
+use Rattle.grammar.specs.Grammars.{Symbol, part, Makes, row, rowOf, says, noRow, Production, Names, View}
 use Rattle.grammar.specs.Rows.{Row, above, made, levels}
-use Rattle.grammar.specs.Derivations.{Has, here, there, Derives, end, taken, held, entered}
+use Rattle.grammar.specs.Derivations.{Derives, end, taken, held, entered}
 use Rattle.grammar.specs.Forests.{Forest, nothing, tree}
+use Rattle.grammar.proofs.Laws.Tests.{every-has}
 use Rattle.grammar.proofs.Laws.Checks.{Hints, every, fewerOf, moreOf, fewRows}
 use Rattle.grammar.proofs.Laws.Takes.{derives-forward}
 
@@ -38,8 +38,8 @@ forest-above {n = n} {i = i} {j = j} {rows = rows} kind h children =
     let covered : Forest n i (i + (j - i)) rows = rw ends children in
     rw append-nil at (tree {i = i} {j = j} {r = r} (omega arith) refl covered (nothing {i = i + (j - i)} {j = j} (omega arith)))
 
-forest-made : {below i j : ℕ} {rows : List Row} → (gives : Gives) → (said : ℕ) → i ≤ j → Forest below i j rows
-    → Forest (levels gives + below) i j (made gives i j said rows)
+forest-made : {below i j : ℕ} {rows : List Row} → (makes : Makes) → (said : ℕ) → i ≤ j → Forest below i j rows
+    → Forest (levels makes + below) i j (made makes i j said rows)
 unfolding levels made
 forest-made (row kind) said h f = rw (suc-add, zero-add) (forest-above kind h f)
 forest-made rowOf said h f = rw (suc-add, zero-add) (forest-above said h f)
@@ -64,21 +64,15 @@ pub count-children : {n i j : ℕ} {rows : List Row} → (r : Row) → r .count 
     → r .count ≡ suc (sumOfCounts f)
 count-children r c f = let children = counts-add f in omega arith
 
-made-length : (gives : Gives) → (i j said : ℕ) → (rows : List Row) → length (made gives i j said rows) ≡ levels gives + length rows
+made-length : (makes : Makes) → (i j said : ℕ) → (rows : List Row) → length (made makes i j said rows) ≡ levels makes + length rows
 unfolding levels made
 made-length (row kind) i j said rows = omega arith
 made-length rowOf i j said rows = omega arith
 made-length (says kind) i j said rows = omega arith
 made-length noRow i j said rows = omega arith
 
--- what passes a test of every production passes it at one
-every-has : {g : List Production} {p : Production} → (test : Production → Bool) → every test g ≡ true → Has g p → test p ≡ true
-unfolding every
-every-has test h (here {p = p} {ps = ps}) = and-left (test p) (every test ps) h
-every-has test h (there {q = q} {ps = ps} has) = every-has test (and-right (test q) (every test ps) h) has
-
 few-made : (h : Hints) → (p : Production) → (x : ℕ) → p .left ≡ x → fewRows h p ≡ true
-    → levels (p .gives) + h .fewer x + moreOf h (p .right) ≤ fewerOf h (p .right) + h .more x
+    → levels (p .makes) + h .fewer x + moreOf h (p .right) ≤ fewerOf h (p .right) + h .more x
 unfolding fewRows
 few-made h p x left few = rw (← left) (leb-true _ _ few)
 
@@ -90,7 +84,7 @@ module _ {g : List Production} {v : View} where
   forest (taken {i = i} h rest) = forest-before {i = i} {j = suc i} (omega arith) (forest rest)
   forest (held h rest) = forest rest
   forest (entered {said = said} {p = p} has left fits inner rest) =
-      forest-append (rw (← fits) at (forest-made (p .gives) said (derives-forward inner) (forest inner))) (forest rest)
+      forest-append (rw (← fits) at (forest-made (p .makes) said (derives-forward inner) (forest inner))) (forest rest)
 
   module _ (h : Hints) (few : every (fewRows h) g ≡ true) where
     pub few-rows : {e : Names} {n i j said : ℕ} {ss : List Symbol} {rows : List Row}
@@ -100,9 +94,9 @@ module _ {g : List Production} {v : View} where
     few-rows (taken c rest) = let after = few-rows rest in omega arith
     few-rows (held c rest) = few-rows rest
     few-rows (entered {i = i} {j = j} {x = x} {said = said} {p = p} {inner = inner} {rest = rest} has left fits within next) =
-        let made-few = few-made h p x left (every-has (fewRows h) few has) in
-        let own = made-length (p .gives) i j said inner in
-        let both = length-append (made (p .gives) i j said inner) rest in
+        let made-few = few-made h p x left (every-has (fewRows h) g _ few has) in
+        let own = made-length (p .makes) i j said inner in
+        let both = length-append (made (p .makes) i j said inner) rest in
         let inside = few-rows within in
         let after = few-rows next in
         omega arith

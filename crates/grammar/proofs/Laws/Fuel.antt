@@ -122,10 +122,10 @@ module _ (g : List Production) (v : View) (h : Hints) (w : ℕ) (good : every (f
       ends-over (advances-within f e n ss i) (λ (j : ℕ) (rows : List Row) (said : ℕ). advances-condition h v b q ss i j))
   advances-within (suc f) e n (part x ∷ ss) i =
       ends-enter (choice g v (v .inside x i e) x i) n i _ (λ (p : Production) (below : ℕ) (c : choice g v (v .inside x i e) x i ≡ one p)
-      (fit : n ≡ levels (p .gives) + below).
+      (fit : n ≡ levels (p .makes) + below).
       ends-onward _ (advances-within f (v .inside x i e) below (p .right) i)
       (λ (j : ℕ) (inner : List Row) (said : ℕ) (a : Advances h v (p .right) i j).
-      ends-onward (joined (p .gives) i j inner said) (advances-within f e n ss j)
+      ends-onward (joined (p .makes) i j inner said) (advances-within f e n ss j)
       (λ (k : ℕ) (rest : List Row) (later : ℕ) (b : Advances h v ss j k).
       upTo (advances-part h v x w p ss i j k (chosen-falls (v .inside x i e) x i p c) a b))))
 
@@ -193,13 +193,13 @@ module _ (g : List Production) (v : View) (h : Hints) (w count : ℕ) (good : ev
   unspent (suc f) e n (part x ∷ ss) i a b u =
       let rest = bounded-rest h w (part x) ss b in
       ends-enter (choice g v (v .inside x i e) x i) n i _ (λ (p : Production) (below : ℕ) (c : choice g v (v .inside x i e) x i ≡ one p)
-      (fit : n ≡ levels (p .gives) + below).
+      (fit : n ≡ levels (p .makes) + below).
       let l = chosen-falls g v h w good (v .inside x i e) x i p c in
       let light = l .light in
       ends-onward _ (ends-both (advances-within g v h w good f (v .inside x i e) below (p .right) i)
       (unspent f (v .inside x i e) below (p .right) i (l .no-end) (l .bound) (omega arith)))
       (λ (j : ℕ) (inner : List Row) (said : ℕ) (r : Advances h v (p .right) i j).
-      ends-onward (joined (p .gives) i j inner said)
+      ends-onward (joined (p .makes) i j inner said)
       (unspent f e n ss j a rest (enough-after x p ss f i j (h .nullable x) refl l r (bounded-needs h w ss rest) u))
       (λ (k : ℕ) (more : List Row) (later : ℕ) (z : Unit {0}). upTo tt)))
 

@@ -61,7 +61,7 @@ grows-deeper (suc l) (suc left) zero i below more h f = absurd (omega arith)
 grows-deeper (suc l) (suc left) (suc room) i below more h f = grows-deeper l left room i below more (omega arith) f
 
 grows-enter : {w : Way} (c : Choice) (left room i : ℕ) (within more : Production → ℕ → Outcome)
-    → ((p : Production) → Grows w (descend (levels (p .gives)) left i (within p)) (descend (levels (p .gives)) room i (more p)))
+    → ((p : Production) → Grows w (descend (levels (p .makes)) left i (within p)) (descend (levels (p .makes)) room i (more p)))
     → Grows w (enter c left i within) (enter c room i more)
 unfolding enter
 grows-enter none left room i within more f = same
@@ -74,9 +74,9 @@ module _ (g : List Production) (v : View) where
       → ((j : ℕ) → Grows w (readWithin g v fuel e n ss j) (readWithin g v more e m ss j))
       → Grows w
       (onward (readWithin g v fuel (v .inside x i e) left (p .right) i) (λ (j : ℕ) (inner : List Row) (said : ℕ).
-      onward (readWithin g v fuel e n ss j) (joined (p .gives) i j inner said)))
+      onward (readWithin g v fuel e n ss j) (joined (p .makes) i j inner said)))
       (onward (readWithin g v more (v .inside x i e) room (p .right) i) (λ (j : ℕ) (inner : List Row) (said : ℕ).
-      onward (readWithin g v more e m ss j) (joined (p .gives) i j inner said)))
+      onward (readWithin g v more e m ss j) (joined (p .makes) i j inner said)))
   grows-part x i n m left room e ss p fuel more inner rest =
       grows-onward _ _ inner (λ (j : ℕ) (rows : List Row) (said : ℕ).
       grows-onward _ _ (rest j) (λ (k : ℕ) (others : List Row) (later : ℕ). same))
@@ -93,7 +93,7 @@ module _ (g : List Production) (v : View) where
       grows-pick (met v e i b q) _ _ i (more-fuel fuel more (omega arith) e n ss i)
   more-fuel (suc fuel) (suc more) h e n (part x ∷ ss) i =
       grows-enter (choice g v (v .inside x i e) x i) n n i _ _ (λ (p : Production).
-      grows-descend (levels (p .gives)) n i _ _ (λ (left : ℕ).
+      grows-descend (levels (p .makes)) n i _ _ (λ (left : ℕ).
       grows-part x i n n left left e ss p fuel more
       (more-fuel fuel more (omega arith) (v .inside x i e) left (p .right) i)
       (λ (j : ℕ). more-fuel fuel more (omega arith) e n ss j)))
@@ -109,7 +109,7 @@ module _ (g : List Production) (v : View) where
       grows-pick (met v e i b q) _ _ i (more-levels fuel n m h e ss i)
   more-levels (suc fuel) n m h e (part x ∷ ss) i =
       grows-enter (choice g v (v .inside x i e) x i) n m i _ _ (λ (p : Production).
-      grows-deeper (levels (p .gives)) n m i _ _ h (λ (left room : ℕ) (k : left ≤ room).
+      grows-deeper (levels (p .makes)) n m i _ _ h (λ (left room : ℕ) (k : left ≤ room).
       grows-part x i n m left room e ss p fuel fuel
       (more-levels fuel left room k (v .inside x i e) (p .right) i)
       (λ (j : ℕ). more-levels fuel n m h e ss j)))
@@ -121,5 +121,5 @@ module _ (g : List Production) (v : View) where
   derives-wider m h (taken t d) = taken t (derives-wider m h d)
   derives-wider m h (held t d) = held t (derives-wider m h d)
   derives-wider m h (entered {n = n} {below = left} {p = p} has of fits inner rest) =
-      let room = m - levels (p .gives) in
+      let room = m - levels (p .makes) in
       entered {n = m} {below = room} has of (omega arith) (derives-wider room (omega arith) inner) (derives-wider m h rest)

@@ -13,7 +13,8 @@ use Rattle.grammar.specs.Grammars.{endOfTokens, agrees, Names}
 use Rattle.grammar.specs.Rows.{levels}
 use Rattle.grammar.specs.First.{allows, skips, starts, anyOf, emptyWithin, firstWithin, empty, first, canBegin, canSkip}
 use Rattle.grammar.specs.Reading.{breadth, whole}
-use Rattle.grammar.specs.Classes.{typeName, classes}
+use Rattle.grammar.specs.Classes.{typeName}
+use Rattle.grammar.specs.Nonterminals.{interface, function}
 use Rattle.grammar.specs.Nonterminals.{program, declarations, declaration, alias, methods, method, body, functions}
 use Rattle.grammar.specs.Nonterminals.{definition, mutable, fields, parameters, variants, variant, payloadTypes}
 use Rattle.grammar.specs.Nonterminals.{fieldName, typeParameters, moreNames, statements, loopOrComplement, expressions}
@@ -28,7 +29,7 @@ use Rattle.grammar.proofs.Laws.Checks.{opposed}
 use Rattle.grammar.proofs.Laws.Checks.{excludes, exclusive, below, noEnd, vanishes, needs, bounded, falls, fewerOf}
 use Rattle.grammar.proofs.Laws.Checks.{moreOf, fewRows, Passes}
 use Rattle.grammar.proofs.Laws.Follow.{Steady}
-use Rattle.grammar.proofs.Laws.Views.{Kinds, class-below}
+use Rattle.grammar.proofs.Laws.Views.{classes, Kinds, class-below}
 
 -- what may follow a nonterminal; any class where there is no entry
 record Follow : Type 0 where
@@ -50,6 +51,8 @@ followed =
     entry declarations (endOfTokens ∷ []) ∷
     entry declaration (endOfTokens ∷ beginsDeclaration) ∷
     entry alias (endOfTokens ∷ beginsDeclaration) ∷
+    entry function (endOfTokens ∷ rightBrace ∷ beginsDeclaration) ∷
+    entry interface (endOfTokens ∷ beginsDeclaration) ∷
     entry parameters (arrow ∷ []) ∷
     entry fields (arrow ∷ rightBrace ∷ []) ∷
     entry moreNames (rightBracket ∷ []) ∷

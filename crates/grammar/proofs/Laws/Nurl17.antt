@@ -10,8 +10,9 @@ use Rattle.grammar.specs.Rows.{Row}
 use Rattle.grammar.specs.Forests.{Forest}
 use Rattle.grammar.specs.Reading.{ok, stuck, deep, spent}
 use Rattle.grammar.specs.Languages.{language17}
-use Rattle.grammar.specs.Answers.{levelLimit, readTokens, answered}
-use Rattle.grammar.specs.Demands.{DerivationOf, Demands}
+use Rattle.grammar.specs.Sources.{DerivationOf, readTokens}
+use Rattle.grammar.specs.Answers.{levelLimit, answer17}
+use Rattle.grammar.specs.Demands.{MeetsDemands}
 use Rattle.grammar.proofs.Laws.Grows.{Grows, byLevels}
 use Rattle.grammar.proofs.Laws.Takes.{from, allTaken}
 use Rattle.grammar.proofs.Laws.Nurl.{hints17, passes17, steady17}
@@ -64,7 +65,6 @@ module _ (source names : List ℕ) (ts : List Token) (scans : scan edition17 sou
   pub forest17 : (n : ℕ) (rs : List Row) → DerivationOf language17 source names ts n rs → Forest n 0 (length ts) rs
   forest17 = read-forest language17 fit17 source names ts scans
 
--- the answer for NURL 1.7 has the three demands, with 200 levels
-pub demands17 : (source names tokens rows : List ℕ)
-    → Demands language17 source names 200 tokens rows (answered language17 levelLimit source names tokens rows)
-demands17 source names tokens rows = answered-demands language17 source names levelLimit tokens rows fit17
+-- the answer for grammar 1.7 meets the three demands
+pub answer17-meets : MeetsDemands answer17
+answer17-meets source names tokens rows = answered-demands language17 source names levelLimit tokens rows fit17

@@ -55,8 +55,8 @@ module _ {P : ℕ → List Row → ℕ → Type 0} {S : Type 0} where
   ends-descend (suc l) (suc left) i below f = ends-descend l left i below (λ (n : ℕ) (h : left ≡ l + n). f n (omega arith))
 
   pub ends-enter : (c : Choice) (left i : ℕ) (within : Production → ℕ → Outcome)
-      → ((p : Production) (below : ℕ) → c ≡ one p → left ≡ levels (p .gives) + below → Ends P S (within p below))
+      → ((p : Production) (below : ℕ) → c ≡ one p → left ≡ levels (p .makes) + below → Ends P S (within p below))
       → Ends P S (enter c left i within)
   unfolding enter
   ends-enter none left i within f = atStuck
-  ends-enter (one p) left i within f = ends-descend (levels (p .gives)) left i (within p) (λ (below : ℕ). f p below refl)
+  ends-enter (one p) left i within f = ends-descend (levels (p .makes)) left i (within p) (λ (below : ℕ). f p below refl)

@@ -25,11 +25,11 @@ module _ (g : List Production) (v : View) where
       ends-over (derives fuel e n ss i) (λ (j : ℕ) (rows : List Row) (said : ℕ). held t))
   derives (suc fuel) e n (part x ∷ ss) i =
       ends-enter (choice g v (v .inside x i e) x i) n i _ (λ (p : Production) (left : ℕ) (c : choice g v (v .inside x i e) x i ≡ one p)
-      (fits : n ≡ levels (p .gives) + left).
+      (fits : n ≡ levels (p .makes) + left).
       let (has, of) = chosen g v (v .inside x i e) x i p c in
       ends-onward _ (derives fuel (v .inside x i e) left (p .right) i)
       (λ (j : ℕ) (inner : List Row) (said : ℕ) (d : Derives g v (v .inside x i e) left (p .right) i j inner said).
-      ends-onward (joined (p .gives) i j inner said) (derives fuel e n ss j)
+      ends-onward (joined (p .makes) i j inner said) (derives fuel e n ss j)
       (λ (k : ℕ) (rest : List Row) (later : ℕ) (r : Derives g v e n ss j k rest later).
       upTo (entered has of fits d r))))
 

@@ -12,10 +12,8 @@ use Rattle.grammar.specs.Rows.{Row}
 use Rattle.grammar.specs.Derivations.{derivation}
 use Rattle.grammar.specs.Forests.{Forest}
 use Rattle.grammar.specs.Reading.{Outcome, ok, stuck, deep, spent}
-use Rattle.grammar.specs.Classes.{classes}
 use Rattle.grammar.specs.Languages.{Language, view}
-use Rattle.grammar.specs.Answers.{readTokens}
-use Rattle.grammar.specs.Demands.{DerivationOf}
+use Rattle.grammar.specs.Sources.{viewOf, DerivationOf, readTokens}
 use Rattle.grammar.proofs.Laws.Checks.{Hints, Passes}
 use Rattle.grammar.proofs.Laws.Follow.{Steady}
 use Rattle.grammar.proofs.Laws.Grows.{Grows, byLevels}
@@ -23,7 +21,7 @@ use Rattle.grammar.proofs.Laws.Takes.{from, allTaken, takes-once}
 use Rattle.grammar.proofs.Laws.Forests.{forest}
 use Rattle.grammar.proofs.Laws.Readings.{Counted, reading-sound, reading-unspent, reading-complete, derivations-same}
 use Rattle.grammar.proofs.Laws.Readings.{reading-grows, stuck-none, deep-none, derivation-few}
-use Rattle.grammar.proofs.Laws.Views.{Kinds, items-length, items-kinds, view-counted}
+use Rattle.grammar.proofs.Laws.Views.{classes, Kinds, items-length, items-kinds, view-counted}
 
 -- what is asked of a language
 pub record Fit (l : Language) : Type 0 where
@@ -41,10 +39,10 @@ module _ (l : Language) (fit : Fit l) (source names : List ℕ) (ts : List Token
   kinds : Kinds (items source ts)
   kinds = items-kinds (tokens-placed (l .lexical) (fit .marks) source ts scans)
 
-  counted : Counted (view l (items source ts)) (length ts)
+  counted : Counted (viewOf l source ts) (length ts)
   counted = rw (← items-length source ts) (view-counted l (items source ts) kinds)
 
-  steady : Steady (view l (items source ts)) (fit .hints) classes
+  steady : Steady (viewOf l source ts) (fit .hints) classes
   steady = fit .steady (items source ts) kinds
 
   -- 1. Sound: what is read is all of the tokens, and a derivation of them with those rows, within the levels.
@@ -52,48 +50,48 @@ module _ (l : Language) (fit : Fit l) (source names : List ℕ) (ts : List Token
       → (j ≡ length ts) × (DerivationOf l source names ts n rs)
   unfolding readTokens
   read-sound =
-      reading-sound (l .productions) (fit .hints) classes (l .start) (fit .tests) (view l (items source ts)) (length ts) steady counted _
+      reading-sound (l .productions) (fit .hints) classes (l .start) (fit .tests) (viewOf l source ts) (length ts) steady counted _
 
   -- 2. Complete: a derivation within the levels is what is read, with exactly its rows.
   pub read-complete : (n : ℕ) (rs : List Row) → DerivationOf l source names ts n rs → ReadAs (readTokens l n source names ts) (length ts) rs
   unfolding readTokens
   read-complete n rs (derivation {said = said} d) = read-as
-      (reading-complete (l .productions) (fit .hints) classes (l .start) (fit .tests) (view l (items source ts)) (length ts) steady counted _
+      (reading-complete (l .productions) (fit .hints) classes (l .start) (fit .tests) (viewOf l source ts) (length ts) steady counted _
       n said rs d)
 
   -- 3. Unique: any two derivations, at whatever depths, have the same rows.
   pub read-same : (n m : ℕ) (rs others : List Row) → DerivationOf l source names ts n rs → DerivationOf l source names ts m others
       → rs ≡ others
   read-same =
-      derivations-same (l .productions) (fit .hints) classes (l .start) (fit .tests) (view l (items source ts)) (length ts) steady counted _
+      derivations-same (l .productions) (fit .hints) classes (l .start) (fit .tests) (viewOf l source ts) (length ts) steady counted _
 
   -- 4. More levels never change an ok or a stuck; stuck: no derivation at any depth; too deep: none within the levels.
   pub read-grows : (n m : ℕ) → n ≤ m → Grows byLevels (readTokens l n source names ts) (readTokens l m source names ts)
   unfolding readTokens
   read-grows =
-      reading-grows (l .productions) (fit .hints) classes (l .start) (fit .tests) (view l (items source ts)) (length ts) steady counted _
+      reading-grows (l .productions) (fit .hints) classes (l .start) (fit .tests) (viewOf l source ts) (length ts) steady counted _
 
   pub read-stuck : (n i m : ℕ) (rs : List Row) → readTokens l n source names ts ≡ stuck i → DerivationOf l source names ts m rs → ⊥
   unfolding readTokens
   read-stuck =
-      stuck-none (l .productions) (fit .hints) classes (l .start) (fit .tests) (view l (items source ts)) (length ts) steady counted _
+      stuck-none (l .productions) (fit .hints) classes (l .start) (fit .tests) (viewOf l source ts) (length ts) steady counted _
 
   pub read-deep : (n i : ℕ) (rs : List Row) → readTokens l n source names ts ≡ deep i → DerivationOf l source names ts n rs → ⊥
   unfolding readTokens
   read-deep =
-      deep-none (l .productions) (fit .hints) classes (l .start) (fit .tests) (view l (items source ts)) (length ts) steady counted _
+      deep-none (l .productions) (fit .hints) classes (l .start) (fit .tests) (viewOf l source ts) (length ts) steady counted _
 
   -- 5. The explicit fuel suffices: every token list gets ok, stuck or too deep.
   pub read-unspent : (n : ℕ) → readTokens l n source names ts ≡ spent → ⊥
   unfolding readTokens
   read-unspent =
-      reading-unspent (l .productions) (fit .hints) classes (l .start) (fit .tests) (view l (items source ts)) (length ts) steady counted _
+      reading-unspent (l .productions) (fit .hints) classes (l .start) (fit .tests) (viewOf l source ts) (length ts) steady counted _
 
   -- 6. A derivation takes each token once and in order, has at most two rows for each token and one more, and its rows' counts and
   -- covers are those of their children.
   pub read-few : (n : ℕ) (rs : List Row) → DerivationOf l source names ts n rs → length rs ≤ 2 * length ts + 1
   read-few =
-      derivation-few (l .productions) (fit .hints) classes (l .start) (fit .tests) (view l (items source ts)) (length ts) steady counted _
+      derivation-few (l .productions) (fit .hints) classes (l .start) (fit .tests) (viewOf l source ts) (length ts) steady counted _
 
   pub read-forest : (n : ℕ) (rs : List Row) → DerivationOf l source names ts n rs → Forest n 0 (length ts) rs
   read-forest n rs (derivation d) = forest d

@@ -14,9 +14,13 @@ use Rattle.lexer.specs.Tokens.{Token}
 use Rattle.lexer.proofs.Laws.Places.{Placed, placed-none, placed-more}
 use Rattle.typenames.specs.TypeNames.{Item, itemOf, items, isNamed}
 use Rattle.grammar.specs.Grammars.{Names}
-use Rattle.grammar.specs.Classes.{typeName, classes}
+use Rattle.grammar.specs.Classes.{typeName}
 use Rattle.grammar.specs.Languages.{Language, noItem, classOf, view}
 use Rattle.grammar.proofs.Laws.Readings.{Counted}
+
+-- the number of classes
+abbrev pub classes : ℕ
+classes = 44
 
 -- tokens whose kinds are kinds
 pub data Kinds : List Item → Type 0 where

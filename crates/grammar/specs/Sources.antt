@@ -1,0 +1,29 @@
+-- The tokens of a source under a list of names: the names in force, what the grammar asks of the tokens, their derivations and
+-- their leftmost reading.
+use Prim.Native.Nat.{ℕ}
+use mathlib.Core.List.{List}
+use lib.ListN.{length}
+use Rattle.lexer.specs.Tokens.{Token}
+use Rattle.typenames.specs.NameList.{entries}
+use Rattle.typenames.specs.TypeNames.{items, typeNames}
+use Rattle.grammar.specs.Grammars.{Names, View}
+use Rattle.grammar.specs.Rows.{Row}
+use Rattle.grammar.specs.Derivations.{Derivation}
+use Rattle.grammar.specs.Reading.{Outcome, reading}
+use Rattle.grammar.specs.Languages.{Language, view}
+
+-- "the type names of that source and list": the set N
+abbrev pub namesOf : Language → List ℕ → List ℕ → List Token → Names
+namesOf l source names ts = typeNames (l .opening) (entries names) (items source ts)
+
+abbrev pub viewOf : Language → List ℕ → List Token → View
+viewOf l source ts = view l (items source ts)
+
+-- "A derivation of a token list": of the tokens ts of the source, nested at most n levels, with these rows
+abbrev pub DerivationOf : Language → List ℕ → List ℕ → List Token → ℕ → List Row → Type 0
+DerivationOf l source names ts n rows =
+    Derivation (l .productions) (viewOf l source ts) (length ts) (namesOf l source names ts) n (l .start) rows
+
+-- the leftmost reading of the tokens, with n levels
+unfoldable pub readTokens : Language → ℕ → List ℕ → List ℕ → List Token → Outcome
+readTokens l n source names ts = reading (l .productions) (viewOf l source ts) (length ts) (namesOf l source names ts) n (l .start)
