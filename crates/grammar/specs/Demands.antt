@@ -84,8 +84,8 @@ module _ (l : Language) (source names : List ℕ) where
     -- - one that never writes falls to `accepted`, by the token table (`never-writes-falls`);
     -- - one that reads the first declaration and invents the others falls to `accepted`, by `derived`, and `only` fixes each row
     --   (`reads-first-falls`);
-    -- - one that reports invented row counts falls to `accepted` for the tokens and to `only` for the tree
-    --   (`invents-counts-falls`).
+    -- - one that reports invented row counts falls to `accepted` for the tokens (`invents-tokens-falls`) and to `only` for the tree
+    --   (`invents-rows-falls`).
     pub record Demands (r : Result) : Type 0 where
       -- Demand 1: "A refusal carries its number and its place, and both lent tables are then left exactly as document 01's table
       -- says", and a refusal is "given exactly when" that table says.

@@ -25,7 +25,7 @@ use Rattle.grammar.specs.TreeTable.{treeRoom, placed, cleared}
 use Rattle.grammar.specs.Sources.{DerivationOf, readTokens}
 use Rattle.grammar.specs.Answers.{Verdict, early, late, accept, judged, scannedTokens, checkedNames, verdict}
 use Rattle.grammar.specs.Answers.{Result, result, answered}
-use Rattle.grammar.specs.Demands.{Readable, Room, Refusal, too-long, bad-names, bad-byte, open-string}
+use Rattle.grammar.specs.Demands.{Admitted, Readable, Room, Refusal, too-long, bad-names, bad-byte, open-string}
 use Rattle.grammar.specs.Demands.{few-token-rows, no-program, too-deep, few-tree-rows, Acceptance, Demands}
 use Rattle.grammar.specs.declared.Answer.the-variants.{Accepted, Refused}
 use Rattle.grammar.proofs.Laws.Sources.{Fit, ReadAs, read-as, read-sound, read-complete, read-same, read-stuck, read-deep}
@@ -39,6 +39,30 @@ module _ (l : Language) (source names : List ℕ) (limit : ℕ) (tokens rows : L
         → Refusal l source names limit tokens rows number place (filled ts tokens) (cleared rows) → Found (late number place ts)
     found-accept : {ts : List Token} {rs : List Row} → Readable l source names ts → length ts ≤ tokenRoom tokens
         → length rs ≤ treeRoom rows → DerivationOf l source names ts limit rs → Found (accept ts rs)
+
+  -- the other way: where the tokens are readable, the verdict is that of the reading
+  verdict-within : length source ≤ sourceLimit → verdict l limit source names (tokenRoom tokens) (treeRoom rows)
+      ≡ checkedNames (checked (l .lexical) names)
+      (scannedTokens l limit source names (tokenRoom tokens) (treeRoom rows) (scan (l .lexical) source))
+  unfolding verdict
+  verdict-within within = rw (le-ltb sourceLimit (length source) within)
+
+  verdict-good : Admitted l source names → (s : Scan) → scan (l .lexical) source ≡ s
+      → verdict l limit source names (tokenRoom tokens) (treeRoom rows)
+      ≡ scannedTokens l limit source names (tokenRoom tokens) (treeRoom rows) s
+  unfolding checkedNames
+  verdict-good a s h = verdict-within (a .within) ∙ rw (a .good, h)
+
+  verdict-read : (ts : List Token) → Readable l source names ts → length ts ≤ tokenRoom tokens → (o : Outcome)
+      → readTokens l limit source names ts ≡ o
+      → verdict l limit source names (tokenRoom tokens) (treeRoom rows) ≡ judged (treeRoom rows) ts o
+  unfolding scannedTokens
+  verdict-read ts r room o h =
+      verdict-good (r .admitted) (clean ts) (r .scans) ∙ rw (le-leb (length ts) (tokenRoom tokens) room, h)
+
+  -- the tokens of a source are one list
+  readable-same : (ts us : List Token) → Readable l source names ts → Readable l source names us → ts ≡ us
+  readable-same ts us r k = let one = r .scans in let two = k .scans in cc
 
   module _ (fit : Fit l) where
     -- No. 6 to 8
@@ -63,24 +87,24 @@ module _ (l : Language) (source names : List ℕ) (limit : ℕ) (tokens rows : L
     found-tokens ts r true t = found-judged ts r (leb-true (length ts) (tokenRoom tokens) t) (readTokens l limit source names ts) refl
     found-tokens ts r false t = found-early (few-token-rows r (leb-false (length ts) (tokenRoom tokens) t))
 
-    fault-by : {A B : Type 0} (number place : ℕ) → length source ≤ sourceLimit → checked (l .lexical) names ≡ Good
+    fault-by : {A B : Type 0} (number place : ℕ) → Admitted l source names
         → scan (l .lexical) source ≡ fault number place → ((number ≡ 3) × A) ⊎ ((number ≡ 4) × B) → Found (early number place)
-    fault-by number place within good h (inl (three, b)) = rw three (found-early (bad-byte (record { within = within; good = good }) (rw three at h)))
-    fault-by number place within good h (inr (four, b)) = rw four (found-early (open-string (record { within = within; good = good }) (rw four at h)))
+    fault-by number place a h (inl (three, b)) = rw three (found-early (bad-byte a (rw three at h)))
+    fault-by number place a h (inr (four, b)) = rw four (found-early (open-string a (rw four at h)))
 
-    found-scan : length source ≤ sourceLimit → checked (l .lexical) names ≡ Good → (s : Scan) → scan (l .lexical) source ≡ s
+    found-scan : Admitted l source names → (s : Scan) → scan (l .lexical) source ≡ s
         → Found (scannedTokens l limit source names (tokenRoom tokens) (treeRoom rows) s)
     unfolding scannedTokens
-    found-scan within good (fault number place) h =
-        fault-by number place within good h (fault-placed (l .lexical) (fit .marks) source number place h .reason)
-    found-scan within good (clean ts) h =
-        found-tokens ts (record { admitted = record { within = within; good = good }; scans = h }) (leb (length ts) (tokenRoom tokens)) refl
+    found-scan a (fault number place) h =
+        fault-by number place a h (fault-placed (l .lexical) (fit .marks) source number place h .reason)
+    found-scan a (clean ts) h =
+        found-tokens ts (record { admitted = a; scans = h }) (leb (length ts) (tokenRoom tokens)) refl
 
     -- No. 2
     found-names : length source ≤ sourceLimit → (c : Checked) → checked (l .lexical) names ≡ c
         → Found (checkedNames c (scannedTokens l limit source names (tokenRoom tokens) (treeRoom rows) (scan (l .lexical) source)))
     unfolding checkedNames
-    found-names within Good h = found-scan within h (scan (l .lexical) source) refl
+    found-names within Good h = found-scan (record { within = within; good = h }) (scan (l .lexical) source) refl
     found-names within (Checked.Refused number place) h =
         let two = checked-two (l .lexical) names number place h in
         rw two (found-early (bad-names within (rw two at h)))
@@ -95,26 +119,6 @@ module _ (l : Language) (source names : List ℕ) (limit : ℕ) (tokens rows : L
     found : Found (verdict l limit source names (tokenRoom tokens) (treeRoom rows))
     unfolding verdict
     found = found-by (ltb sourceLimit (length source)) refl
-
-    -- the other way: where the tokens are readable, the verdict is that of the reading
-    verdict-within : length source ≤ sourceLimit → verdict l limit source names (tokenRoom tokens) (treeRoom rows)
-        ≡ checkedNames (checked (l .lexical) names)
-        (scannedTokens l limit source names (tokenRoom tokens) (treeRoom rows) (scan (l .lexical) source))
-    unfolding verdict
-    verdict-within within = rw (le-ltb sourceLimit (length source) within)
-
-    verdict-good : length source ≤ sourceLimit → checked (l .lexical) names ≡ Good → (s : Scan) → scan (l .lexical) source ≡ s
-        → verdict l limit source names (tokenRoom tokens) (treeRoom rows)
-        ≡ scannedTokens l limit source names (tokenRoom tokens) (treeRoom rows) s
-    unfolding checkedNames
-    verdict-good within good s h = verdict-within within ∙ rw (good, h)
-
-    verdict-read : (ts : List Token) → Readable l source names ts → length ts ≤ tokenRoom tokens → (o : Outcome)
-        → readTokens l limit source names ts ≡ o
-        → verdict l limit source names (tokenRoom tokens) (treeRoom rows) ≡ judged (treeRoom rows) ts o
-    unfolding scannedTokens
-    verdict-read ts r room o h =
-        verdict-good (r .admitted .within) (r .admitted .good) (clean ts) (r .scans) ∙ rw (le-leb (length ts) (tokenRoom tokens) room, h)
 
     verdict-derived : (ts : List Token) (rs : List Row) → Readable l source names ts → length ts ≤ tokenRoom tokens
         → DerivationOf l source names ts limit rs
@@ -134,10 +138,10 @@ module _ (l : Language) (source names : List ℕ) (limit : ℕ) (tokens rows : L
     unfolding answered result scannedTokens judged checkedNames verdict
     refusal-result number place ta ra (too-long long) = rw (lt-ltb sourceLimit (length source) long)
     refusal-result number place ta ra (bad-names within h) = rw (verdict-within within, h)
-    refusal-result number place ta ra (bad-byte a h) = rw (verdict-good (a .within) (a .good) (fault 3 place) h)
-    refusal-result number place ta ra (open-string a h) = rw (verdict-good (a .within) (a .good) (fault 4 place) h)
+    refusal-result number place ta ra (bad-byte a h) = rw (verdict-good a (fault 3 place) h)
+    refusal-result number place ta ra (open-string a h) = rw (verdict-good a (fault 4 place) h)
     refusal-result number place ta ra (few-token-rows {ts = ts} r few) =
-        rw (verdict-good (r .admitted .within) (r .admitted .good) (clean ts) (r .scans), lt-leb (length ts) (tokenRoom tokens) few)
+        rw (verdict-good (r .admitted) (clean ts) (r .scans), lt-leb (length ts) (tokenRoom tokens) few)
     refusal-result number place ta ra (no-program {ts = ts} r room h) = rw (verdict-read ts r room (stuck place) h)
     refusal-result number place ta ra (too-deep {ts = ts} r room h) = rw (verdict-read ts r room (deep place) h)
     refusal-result number place ta ra (few-tree-rows {ts = ts} {rs = rs} r room d few) =
@@ -149,10 +153,6 @@ module _ (l : Language) (source names : List ℕ) (limit : ℕ) (tokens rows : L
         ≡ record { answer = Accepted (length ts) (length rs); tokens = filled ts tokens; rows = placed rs rows }
     unfolding answered result
     accept-result ts rs r room space d = rw (verdict-derived ts rs r room d, le-leb (length rs) (treeRoom rows) space)
-
-    -- the tokens of a source are one list
-    readable-same : (ts us : List Token) → Readable l source names ts → Readable l source names us → ts ≡ us
-    readable-same ts us r k = let one = r .scans in let two = k .scans in cc
 
     -- "no program" and "too deep"
     six-none : (number place : ℕ) (ta ra : List ℕ) → Refusal l source names limit tokens rows number place ta ra → number ≡ 6

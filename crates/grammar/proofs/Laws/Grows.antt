@@ -29,6 +29,10 @@ grows-ok same = refl
 pub grows-stuck : {w : Way} {i : ℕ} {p : Outcome} → Grows w (stuck i) p → p ≡ stuck i
 grows-stuck same = refl
 
+pub grows-unspent : {o p : Outcome} → Grows byFuel o p → (o ≡ spent → ⊥) → p ≡ o
+grows-unspent same n = refl
+grows-unspent from-spent n = absurd (n refl)
+
 grows-onward : {w : Way} {o p : Outcome} (rest more : ℕ → List Row → ℕ → Outcome) → Grows w o p
     → ((j : ℕ) (rows : List Row) (said : ℕ) → Grows w (rest j rows said) (more j rows said)) → Grows w (onward o rest) (onward p more)
 unfolding onward

@@ -1,118 +1,117 @@
--- Readers that document 01 will not accept, and that each of them falls to the demands. Assumes nothing.
+-- The readers that document 01 will not accept, and that each falls to the demand that is named for it. Assumes nothing.
 use Prim.Native.Nat.{ℕ, suc, _*_}
-use mathlib.Core.Path.{_≡_, refl, ap, _∙_}
+use mathlib.Core.Path.{_≡_, refl, sym, _∙_, ap}
 use mathlib.Core.List.{List, [], _∷_, _++_}
 use native.Mathlib.Omega.{arith}
-use lib.ListN.{take, drop, getD}
+use lib.ListN.{length, take, drop, getD}
 use Rattle.lexer.specs.Text.{bytes}
-use Rattle.lexer.specs.Kinds.{colon}
+use Rattle.lexer.specs.Kinds.{ident, keyword, int, colon}
+use Rattle.lexer.specs.Editions.{edition17}
+use Rattle.lexer.specs.Tokens.{Token, clean, scan}
+use Rattle.lexer.specs.Table.{tokenRows, filled, tokensOf}
+use Rattle.lexer.proofs.Laws.Examples.{scans}
 use Rattle.grammar.specs.RowKinds.{programRow, functionRow}
-use Rattle.grammar.specs.TreeTable.{treeWidth, placed}
+use Rattle.grammar.specs.TreeTable.{treeWidth, placed, cleared}
 use Rattle.grammar.specs.Languages.{language17}
-use Rattle.grammar.specs.Answers.{levelLimit, Result, answered}
-use Rattle.grammar.specs.Demands.{Demands}
-use Rattle.grammar.specs.Examples.{lentTokens, lentRows, node}
+use Rattle.grammar.specs.Answers.{Result, answer17}
+use Rattle.grammar.specs.Demands.{Acceptance, Reader, MeetsDemands}
+use Rattle.grammar.specs.Examples.{token, node, lentTokens, lentRows}
 use Rattle.grammar.specs.declared.Answer.{Answer}
 use Rattle.grammar.specs.declared.Answer.the-variants.{Accepted, Refused}
-use Rattle.grammar.proofs.Laws.Answers.{demands-answered}
-use Rattle.grammar.proofs.Laws.Nurl17.{fit17}
 use Rattle.grammar.proofs.Laws.Examples.{answersTo}
+use Rattle.grammar.proofs.Laws.Nurl17.{answer17-meets}
 
--- a reader takes a source, a list of names, a token table and a tree table
-abbrev Reader : Type 0
-Reader = List ℕ → List ℕ → List ℕ → List ℕ → Result
-
-abbrev MeetsDemands : Reader → Type 0
-MeetsDemands reader = (source names tokens rows : List ℕ) → Demands language17 source names levelLimit tokens rows (reader source names tokens rows)
-
--- a reader that meets the demands gives the answer
-gives-answer : (reader : Reader) → MeetsDemands reader → (source names tokens rows : List ℕ)
-    → reader source names tokens rows ≡ answered language17 levelLimit source names tokens rows
-gives-answer reader meets source names tokens rows =
-    demands-answered language17 source names levelLimit tokens rows fit17 (reader source names tokens rows) (meets source names tokens rows)
-
--- what the answer is for M1 and M2
-empty-accepted : answered language17 levelLimit [] [] lentTokens lentRows .answer ≡ Accepted 0 1
-unfolding answersTo
-empty-accepted = refl
-
+-- the sources that tell: M1, M2, and two declarations
 floor : List ℕ
 unfolding bytes
 floor = bytes ": i floor -40"
 
-floor-accepted : answered language17 levelLimit floor [] lentTokens lentRows .answer ≡ Accepted 4 4
+two : List ℕ
+unfolding bytes
+two = bytes ": Foo { } @ g → v { }"
+
+abbrev floorTokens : List Token
+floorTokens = token colon 0 1 ∷ token keyword 2 1 ∷ token ident 4 5 ∷ token int 10 3 ∷ []
+
+empty-accepted : answer17 [] [] lentTokens lentRows .answer ≡ Accepted 0 1
+unfolding answersTo
+empty-accepted = refl
+
+floor-accepted : answer17 floor [] lentTokens lentRows .answer ≡ Accepted 4 4
 unfolding answersTo floor
 floor-accepted = refl
 
--- one that refuses all
+two-accepted : answer17 two [] lentTokens lentRows .answer ≡ Accepted 10 5
+unfolding answersTo two
+two-accepted = refl
+
+-- what acceptance says of the empty source
+empty : Acceptance language17 [] [] 200 lentTokens lentRows 0 1
+    (answer17 [] [] lentTokens lentRows .tokens) (answer17 [] [] lentTokens lentRows .rows)
+empty = answer17-meets [] [] lentTokens lentRows .accepted 0 1 empty-accepted
+
+empty-tokens : scan edition17 [] ≡ clean []
+unfolding scans
+empty-tokens = refl
+
+floor-tokens : scan edition17 floor ≡ clean floorTokens
+unfolding scans floor
+floor-tokens = refl
+
+-- one that refuses all falls to `accepts`
 abbrev refusesAll : Reader
-refusesAll source names tokens rows = record { answer = Refused 6 0; tokens = tokens; rows = rows }
+refusesAll source names tokens rows =
+    record { answer = Refused 6 0; tokens = filled (tokensOf (scan edition17 source)) tokens; rows = cleared rows }
 
 pub refuses-all-falls : MeetsDemands refusesAll → ⊥
 refuses-all-falls meets =
-    let same = ap (λ (r : Result). r .answer) (gives-answer refusesAll meets [] [] lentTokens lentRows) ∙ empty-accepted in
+    let due = meets [] [] lentTokens lentRows .accepts (empty .token-list) (empty .row-list) (empty .readable) (empty .room) (empty .derived) in
+    let same = ap (λ (r : Result). r .answer) due in
     let z : _≡_ {A = ℕ} 0 1 = cc in
     absurd (omega arith)
 
--- one that answers M1 for every source
+-- one that answers M1 for every source falls to `accepted`, by its token count
 abbrev answersM1 : Reader
 answersM1 source names tokens rows =
     record { answer = Accepted 0 1; tokens = tokens; rows = placed (node programRow 0 0 1 ∷ []) rows }
 
 pub answers-M1-falls : MeetsDemands answersM1 → ⊥
 answers-M1-falls meets =
-    let same = ap (λ (r : Result). r .answer) (gives-answer answersM1 meets floor [] lentTokens lentRows) ∙ floor-accepted in
-    let z : _≡_ {A = ℕ} 0 1 = cc in
+    let said = meets floor [] lentTokens lentRows .accepted 0 1 refl in
+    let count = said .token-count in
+    let found = said .readable .scans in
+    let lexed = floor-tokens in
+    let list : said .token-list ≡ floorTokens = cc in
+    let four : _≡_ {A = ℕ} 0 4 = rw list at count in
     absurd (omega arith)
 
--- one that never writes
+-- one that never writes falls to `accepted`, by the token table
 abbrev neverWrites : Reader
-neverWrites source names tokens rows =
-    record { answer = answered language17 levelLimit source names tokens rows .answer; tokens = tokens; rows = rows }
+neverWrites source names tokens rows = record { answer = answer17 source names tokens rows .answer; tokens = tokens; rows = rows }
 
-floor-written : getD (answered language17 levelLimit floor [] lentTokens lentRows .tokens) 0 0 ≡ colon
-unfolding answersTo floor
-floor-written = refl
-
-not-written : getD lentTokens 0 0 ≡ 7
-unfolding lentTokens
-not-written = refl
+floor-written : (ts : List Token) → ts ≡ floorTokens
+    → lentTokens ≡ filled ts lentTokens → ⊥
+unfolding filled tokenRows lentTokens
+floor-written ts list table =
+    let first : getD (filled ts lentTokens) 0 0 ≡ colon = rw list refl in
+    let kept = ap (λ (numbers : List ℕ). getD numbers 0 0) table in
+    absurd (omega arith)
 
 pub never-writes-falls : MeetsDemands neverWrites → ⊥
 never-writes-falls meets =
-    let same = ap (λ (r : Result). getD (r .tokens) 0 0) (gives-answer neverWrites meets floor [] lentTokens lentRows) in
-    let written = floor-written in
-    let kept = not-written in
-    absurd (omega arith)
+    let said = meets floor [] lentTokens lentRows .accepted 4 4 floor-accepted in
+    let found = said .readable .scans in
+    let lexed = floor-tokens in
+    let list : said .token-list ≡ floorTokens = cc in
+    floor-written (said .token-list) list (said .token-table)
 
--- one that reports invented row counts
-abbrev invented : Answer → Answer
-invented (Accepted tokens rows) = Accepted tokens (suc rows)
-invented (Refused number place) = Refused number place
-
-abbrev inventsCounts : Reader
-inventsCounts source names tokens rows =
-    let r = answered language17 levelLimit source names tokens rows in
-    record { answer = invented (r .answer); tokens = r .tokens; rows = r .rows }
-
-pub invents-counts-falls : MeetsDemands inventsCounts → ⊥
-invents-counts-falls meets =
-    let same = ap (λ (r : Result). r .answer) (gives-answer inventsCounts meets [] [] lentTokens lentRows) in
-    let count : Accepted 0 2 ≡ Accepted 0 1 = rw empty-accepted at same in
-    let z : _≡_ {A = ℕ} 2 1 = cc in
-    absurd (omega arith)
-
--- one that reads the first declaration and leaves the others out, with the right counts
+-- one that reads the first declaration and invents the others, here by leaving them out, falls to `accepted`, by its rows
 abbrev readsFirst : Reader
 readsFirst source names tokens rows =
-    let r = answered language17 levelLimit source names tokens rows in
+    let r = answer17 source names tokens rows in
     record { answer = r .answer; tokens = r .tokens; rows = take (2 * treeWidth) (r .rows) ++ drop (2 * treeWidth) rows }
 
-two : List ℕ
-unfolding bytes
-two = bytes ": Foo { } @ g → v { }"
-
-two-written : getD (answered language17 levelLimit two [] lentTokens lentRows .rows) 8 0 ≡ functionRow
+two-written : getD (answer17 two [] lentTokens lentRows .rows) 8 0 ≡ functionRow
 unfolding answersTo two
 two-written = refl
 
@@ -122,7 +121,39 @@ two-kept = refl
 
 pub reads-first-falls : MeetsDemands readsFirst → ⊥
 reads-first-falls meets =
-    let same = ap (λ (r : Result). getD (r .rows) 8 0) (gives-answer readsFirst meets two [] lentTokens lentRows) in
+    let said = meets two [] lentTokens lentRows .accepted 10 5 two-accepted in
+    let due = answer17-meets two [] lentTokens lentRows .only 10 5 two-accepted (said .token-list) (said .readable) 200 (said .row-list) (said .derived) in
+    let same = ap (λ (r : Result). getD (r .rows) 8 0) due ∙ sym (ap (λ (numbers : List ℕ). getD numbers 8 0) (said .row-table)) in
     let written = two-written in
     let kept = two-kept in
+    absurd (omega arith)
+
+-- one that reports invented row counts falls to `accepted` for tokens and to `only` for the tree
+abbrev counted : (ℕ → ℕ) → (ℕ → ℕ) → Answer → Answer
+counted f g (Accepted tokens rows) = Accepted (f tokens) (g rows)
+counted f g (Refused number place) = Refused number place
+
+abbrev inventsCounts : (ℕ → ℕ) → (ℕ → ℕ) → Reader
+inventsCounts f g source names tokens rows =
+    let r = answer17 source names tokens rows in
+    record { answer = counted f g (r .answer); tokens = r .tokens; rows = r .rows }
+
+pub invents-tokens-falls : MeetsDemands (inventsCounts suc (λ n. n)) → ⊥
+invents-tokens-falls meets =
+    let said = meets [] [] lentTokens lentRows .accepted 1 1 (rw empty-accepted refl) in
+    let count = said .token-count in
+    let found = said .readable .scans in
+    let lexed = empty-tokens in
+    let list : said .token-list ≡ [] = cc in
+    let none : _≡_ {A = ℕ} 1 0 = rw list at count in
+    absurd (omega arith)
+
+pub invents-rows-falls : MeetsDemands (inventsCounts (λ n. n) suc) → ⊥
+invents-rows-falls meets =
+    let due = meets [] [] lentTokens lentRows .only 0 2 (rw empty-accepted refl) (empty .token-list) (empty .readable) 200 (empty .row-list) (empty .derived) in
+    let answers : counted (λ n. n) suc (answer17 [] [] lentTokens lentRows .answer)
+    ≡ Accepted (length (empty .token-list)) (length (empty .row-list)) = ap (λ (r : Result). r .answer) due in
+    let said : Accepted 0 2 ≡ Accepted (length (empty .token-list)) (length (empty .row-list)) = rw empty-accepted at answers in
+    let rows = empty .row-count in
+    let z : _≡_ {A = ℕ} 2 1 = cc in
     absurd (omega arith)

@@ -1,6 +1,6 @@
 -- The theorems about readings and derivations of token lists, for any table that passes the tests. Assumes nothing.
 use Prim.Native.Nat.{ℕ, zero, suc, _+_, _*_, _≤_, _<_, max}
-use mathlib.Core.Path.{_≡_, refl, sym, subst}
+use mathlib.Core.Path.{_≡_, refl, sym, _∙_, subst}
 use mathlib.Core.Bool.{true, false}
 use mathlib.Core.List.{List, [], _∷_}
 use native.Mathlib.Omega.{arith}
@@ -13,13 +13,13 @@ use Rattle.grammar.specs.Grammars.{endOfTokens, next, Symbol, part, when
 use Rattle.grammar.specs.Rows.{Row}
 use Rattle.grammar.specs.Derivations.{Derives, end, taken, held, entered, Derivation, derivation}
 use Rattle.grammar.specs.First.{allows, skips, starts}
-use Rattle.grammar.specs.Reading.{ok, stuck, deep, spent, breadth, whole, reading}
+use Rattle.grammar.specs.Reading.{Outcome, ok, stuck, deep, spent, breadth, whole, readWithin, reading}
 use Rattle.grammar.proofs.Laws.Checks.{Hints, noEnd, implies, every, may, flows, falls, Passes}
 use Rattle.grammar.proofs.Laws.Tests.{and-both, implies-by, every-has}
 use Rattle.grammar.proofs.Laws.Follow.{Steady, Flows}
 use Rattle.grammar.proofs.Laws.Complete.{complete, agrees-ok}
 use Rattle.grammar.proofs.Laws.Sound.{sound}
-use Rattle.grammar.proofs.Laws.Grows.{Grows, byLevels, grows-stuck, more-levels, derives-wider}
+use Rattle.grammar.proofs.Laws.Grows.{Grows, byLevels, grows-stuck, grows-unspent, more-fuel, more-levels, derives-wider}
 use Rattle.grammar.proofs.Laws.Fuel.{not-end, falls-of, never-spent}
 use Rattle.grammar.proofs.Laws.Forests.{rows-few}
 
@@ -115,7 +115,16 @@ module _ (g : List Production) (h : Hints) (bound x : ℕ) (tests : Passes g h b
       let two = reading-complete (max n m) later others (derives-wider g v (max n m) (omega arith) k) in
       cc
 
-  -- 4. More levels never change an ok or a stuck.
+  -- 4. More fuel changes nothing: what some fuel reads, if it is not spent, is the reading.
+  pub reading-from : (fuel n : ℕ) (o : Outcome) → readWithin g v fuel e n (whole x) 0 ≡ o → (o ≡ spent → ⊥) → reading g v count e n x ≡ o
+  unfolding reading
+  reading-from fuel n o r unspent =
+      let enough = suc count * suc (breadth g) in
+      let some = more-fuel g v fuel (max fuel enough) (omega arith) e n (whole x) 0 in
+      let all = more-fuel g v enough (max fuel enough) (omega arith) e n (whole x) 0 in
+      sym (grows-unspent all (reading-unspent n)) ∙ grows-unspent some (rw r unspent) ∙ r
+
+  -- More levels never change an ok or a stuck.
   pub reading-grows : (n m : ℕ) → n ≤ m → Grows byLevels (reading g v count e n x) (reading g v count e m x)
   unfolding reading
   reading-grows n m l = more-levels g v (suc count * suc (breadth g)) n m l e (whole x) 0

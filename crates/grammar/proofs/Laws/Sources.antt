@@ -11,16 +11,16 @@ use Rattle.typenames.specs.TypeNames.{Item, items}
 use Rattle.grammar.specs.Rows.{Row}
 use Rattle.grammar.specs.Derivations.{derivation}
 use Rattle.grammar.specs.Forests.{Forest}
-use Rattle.grammar.specs.Reading.{Outcome, ok, stuck, deep, spent}
+use Rattle.grammar.specs.Reading.{Outcome, ok, stuck, deep, spent, whole, readWithin}
 use Rattle.grammar.specs.Languages.{Language, view}
-use Rattle.grammar.specs.Sources.{viewOf, DerivationOf, readTokens}
+use Rattle.grammar.specs.Sources.{namesOf, viewOf, DerivationOf, readTokens}
 use Rattle.grammar.proofs.Laws.Checks.{Hints, Passes}
 use Rattle.grammar.proofs.Laws.Follow.{Steady}
 use Rattle.grammar.proofs.Laws.Grows.{Grows, byLevels}
 use Rattle.grammar.proofs.Laws.Takes.{from, allTaken, takes-once}
 use Rattle.grammar.proofs.Laws.Forests.{forest}
 use Rattle.grammar.proofs.Laws.Readings.{Counted, reading-sound, reading-unspent, reading-complete, derivations-same}
-use Rattle.grammar.proofs.Laws.Readings.{reading-grows, stuck-none, deep-none, derivation-few}
+use Rattle.grammar.proofs.Laws.Readings.{reading-from, reading-grows, stuck-none, deep-none, derivation-few}
 use Rattle.grammar.proofs.Laws.Views.{classes, Kinds, items-length, items-kinds, view-counted}
 
 -- what is asked of a language
@@ -65,7 +65,14 @@ module _ (l : Language) (fit : Fit l) (source names : List ℕ) (ts : List Token
   read-same =
       derivations-same (l .productions) (fit .hints) classes (l .start) (fit .tests) (viewOf l source ts) (length ts) steady counted _
 
-  -- 4. More levels never change an ok or a stuck; stuck: no derivation at any depth; too deep: none within the levels.
+  -- 4. More fuel changes nothing; more levels never change an ok or a stuck; stuck: no derivation at any depth; too deep: none within the levels.
+  pub read-from : (fuel n : ℕ) (o : Outcome)
+      → readWithin (l .productions) (viewOf l source ts) fuel (namesOf l source names ts) n (whole (l .start)) 0 ≡ o
+      → (o ≡ spent → ⊥) → readTokens l n source names ts ≡ o
+  unfolding readTokens
+  read-from =
+      reading-from (l .productions) (fit .hints) classes (l .start) (fit .tests) (viewOf l source ts) (length ts) steady counted _
+
   pub read-grows : (n m : ℕ) → n ≤ m → Grows byLevels (readTokens l n source names ts) (readTokens l m source names ts)
   unfolding readTokens
   read-grows =
