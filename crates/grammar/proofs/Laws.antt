@@ -10,6 +10,7 @@ pub mod Grows
 pub mod Fuel
 pub mod Takes
 pub mod Forests
+pub mod RowKinds
 pub mod Readings
 pub mod Views
 pub mod Nurl

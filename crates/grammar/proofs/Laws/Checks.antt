@@ -1,13 +1,14 @@
 -- The computed tests of a table, which the theorems about readings ask of it, and the hints that they are given: what may
--- follow a nonterminal, which nonterminals may be empty, how much fuel one needs before a token is taken, how many rows it makes.
--- Assumes nothing; a wrong hint only fails a test.
+-- follow a nonterminal, which nonterminals may be empty, how much fuel one needs before a token is taken, how many rows it makes,
+-- and of which kinds. Assumes nothing; a wrong hint only fails a test.
 use Prim.Native.Nat.{ℕ, zero, suc, _+_, _≤_, max}
 use mathlib.Core.Path.{_≡_}
 use mathlib.Core.Bool.{Bool, true, false}
 use mathlib.Core.List.{List, [], _∷_}
 use lib.Dec.{eqb, leb}
-use Rattle.lexer.specs.Tests.{and, or, pick, among}
-use Rattle.grammar.specs.Grammars.{endOfTokens, next, query, Symbol, token, part, condition, Production, agrees}
+use Rattle.lexer.specs.Tests.{and, or, between, pick, among}
+use Rattle.grammar.specs.Grammars.{endOfTokens, next, query, Symbol, token, part, condition, Makes, row, rowOf, says, noRow}
+use Rattle.grammar.specs.Grammars.{Production, agrees}
 use Rattle.grammar.specs.Rows.{levels}
 use Rattle.grammar.specs.Reading.{breadth, whole}
 use Rattle.grammar.specs.First.{skips, starts, empty, first, canBegin, canSkip}
@@ -22,6 +23,12 @@ pub record Hints : Type 0 where
   -- a nonterminal has at most twice as many rows as tokens, and so many less, or more
   pub fewer : ℕ → ℕ
   pub more : ℕ → ℕ
+  -- whether a nonterminal says the kind of the row that it is a part of
+  pub speaks : ℕ → Bool
+  -- the kinds of rows are from 1 to this one
+  pub lastKind : ℕ
+  -- the kind of the row over all the tokens
+  pub topKind : ℕ
 
 unfoldable pub implies : Bool → Bool → Bool
 implies true b = b
@@ -140,6 +147,35 @@ moreOf h (condition b q ∷ ss) = moreOf h ss
 unfoldable pub fewRows : Hints → Production → Bool
 fewRows h p = leb (levels (p .makes) + h .fewer (p .left) + moreOf h (p .right)) (fewerOf h (p .right) + h .more (p .left))
 
+-- symbols that say the kind of the row that they are a part of
+unfoldable pub voiced : Hints → List Symbol → Bool
+voiced h [] = false
+voiced h (token cs ∷ ss) = voiced h ss
+voiced h (part x ∷ ss) = or (h .speaks x) (voiced h ss)
+voiced h (condition b q ∷ ss) = voiced h ss
+
+-- Given whether the nonterminal speaks and whether the symbols do: a kind that a production makes or says is from 1 to the last;
+-- where a part is to say it, a part speaks; and where the nonterminal speaks, a kind is said.
+unfoldable pub kindWithin : ℕ → Bool → Bool → Makes → Bool
+kindWithin last speaks voice (row kind) = and (between 1 last kind) (agrees false speaks)
+kindWithin last speaks voice rowOf = and voice (agrees false speaks)
+kindWithin last speaks voice (says kind) = between 1 last kind
+kindWithin last speaks voice noRow = implies speaks voice
+
+unfoldable pub knownKind : Hints → ℕ → Production → Bool
+knownKind h last p = kindWithin last (h .speaks (p .left)) (voiced h (p .right)) (p .makes)
+
+-- a row of this kind is made
+unfoldable pub makesRow : ℕ → Makes → Bool
+makesRow k (row kind) = eqb kind k
+makesRow k rowOf = false
+makesRow k (says kind) = false
+makesRow k noRow = false
+
+-- a production of x makes a row of kind k
+unfoldable pub tops : ℕ → ℕ → Production → Bool
+tops x k p = implies (eqb (p .left) x) (makesRow k (p .makes))
+
 -- all tests of a table whose start is x, where classes are below a bound
 pub record Passes (g : List Production) (h : Hints) (bound x : ℕ) : Type 0 where
   pub closed : Closed g h bound
@@ -149,3 +185,5 @@ pub record Passes (g : List Production) (h : Hints) (bound x : ℕ) : Type 0 whe
   pub start : bounded h (suc (breadth g)) (whole x) ≡ true
   pub few : every (fewRows h) g ≡ true
   pub once : h .more x ≤ 1
+  pub kinds : every (knownKind h (h .lastKind)) g ≡ true
+  pub top : every (tops x (h .topKind)) g ≡ true

@@ -6,10 +6,11 @@ use mathlib.Core.Bool.{Bool, true}
 use mathlib.Core.List.{List, [], _∷_}
 use native.Mathlib.Omega.{arith}
 use lib.Dec.{eqb}
-use Rattle.lexer.specs.Tests.{and, or, pick, among}
+use Rattle.lexer.specs.Tests.{and, or, between, pick, among}
 use Rattle.lexer.specs.Kinds.{ident, keyword, boolean, dollar, ampersand, at, percent, colon, rightBrace, leftParen, rightParen}
 use Rattle.lexer.specs.Kinds.{leftBracket, rightBracket, bang, question, star, arrow}
 use Rattle.grammar.specs.Grammars.{endOfTokens, agrees, Names}
+use Rattle.grammar.specs.RowKinds.{programRow, namedTypeRow}
 use Rattle.grammar.specs.Rows.{levels}
 use Rattle.grammar.specs.First.{allows, skips, starts, anyOf, emptyWithin, firstWithin, empty, first, canBegin, canSkip}
 use Rattle.grammar.specs.Reading.{breadth, whole}
@@ -20,14 +21,14 @@ use Rattle.grammar.specs.Nonterminals.{definition, mutable, fields, para
 use Rattle.grammar.specs.Nonterminals.{fieldName, typeParameters, moreNames, statements, loopOrComplement, expressions}
 use Rattle.grammar.specs.Nonterminals.{typeArguments, moreWords, selector, arms, payloads3, payloads2, payloads1, types, type}
 use Rattle.grammar.specs.Nonterminals.{interfaceRest, field, parameter, statement, binding, tildeStatement, expression}
-use Rattle.grammar.specs.Nonterminals.{tryOrClosure, castRest}
+use Rattle.grammar.specs.Nonterminals.{tryOrClosure, castRest, assignment, parenthesized}
 use Rattle.grammar.specs.Nurl.{productions17}
 use Rattle.grammar.specs.Languages.{language17, view}
 use Rattle.typenames.specs.TypeNames.{Item}
 use Rattle.grammar.proofs.Laws.Checks.{Hints, implies, every, may, firstClosed, emptyClosed, flows, followClosed, live, asks}
 use Rattle.grammar.proofs.Laws.Checks.{opposed}
 use Rattle.grammar.proofs.Laws.Checks.{excludes, exclusive, below, noEnd, vanishes, needs, bounded, falls, fewerOf}
-use Rattle.grammar.proofs.Laws.Checks.{moreOf, fewRows, Passes}
+use Rattle.grammar.proofs.Laws.Checks.{moreOf, fewRows, voiced, kindWithin, knownKind, makesRow, tops, Passes}
 use Rattle.grammar.proofs.Laws.Follow.{Steady}
 use Rattle.grammar.proofs.Laws.Views.{classes, Kinds, class-below}
 
@@ -103,6 +104,10 @@ hints17 = record {
   -- a type has a row less than two for each token, the program one more
   fewer = λ x. pick (eqb x type) 1 0;
   more = λ x. pick (eqb x program) 1 0;
+  speaks = among (
+      interfaceRest ∷ body ∷ definition ∷ assignment ∷ tildeStatement ∷ loopOrComplement ∷ tryOrClosure ∷ parenthesized ∷ []);
+  lastKind = namedTypeRow;
+  topKind = programRow;
 }
 
 -- FIRST is closed
@@ -141,6 +146,16 @@ few17 : every (fewRows hints17) productions17 ≡ true
 unfolding and levels productions17 every fewerOf moreOf fewRows hints17
 few17 = refl
 
+-- the kinds of rows are from 1 to 46
+kinds17 : every (knownKind hints17 (hints17 .lastKind)) productions17 ≡ true
+unfolding and or between among agrees productions17 implies every voiced kindWithin knownKind hints17
+kinds17 = refl
+
+-- the top row is the program's
+top17 : every (tops program (hints17 .topKind)) productions17 ≡ true
+unfolding and productions17 implies every makesRow tops hints17
+top17 = refl
+
 pub passes17 : Passes productions17 hints17 classes program
 unfolding hints17 follow among or
 passes17 = record {
@@ -150,6 +165,8 @@ passes17 = record {
   start = start17;
   few = few17;
   once = omega arith;
+  kinds = kinds17;
+  top = top17;
 }
 
 -- no nonterminal adds names, so that classes stay what they are

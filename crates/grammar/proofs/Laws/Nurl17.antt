@@ -6,6 +6,7 @@ use lib.ListN.{length}
 use Rattle.lexer.specs.Editions.{edition17}
 use Rattle.lexer.specs.Tokens.{Token, clean, scan}
 use Rattle.lexer.proofs.Laws.Counts.{spelled17}
+use Rattle.grammar.specs.RowKinds.{programRow, namedTypeRow}
 use Rattle.grammar.specs.Rows.{Row}
 use Rattle.grammar.specs.Forests.{Forest}
 use Rattle.grammar.specs.Reading.{ok, stuck, deep, spent}
@@ -15,12 +16,13 @@ use Rattle.grammar.specs.Answers.{levelLimit, answer17}
 use Rattle.grammar.specs.Demands.{MeetsDemands}
 use Rattle.grammar.proofs.Laws.Grows.{Grows, byLevels}
 use Rattle.grammar.proofs.Laws.Takes.{from, allTaken}
+use Rattle.grammar.proofs.Laws.RowKinds.{KindsTo, Top}
 use Rattle.grammar.proofs.Laws.Nurl.{hints17, passes17, steady17}
 use Rattle.grammar.proofs.Laws.Sources.{Fit, ReadAs, read-sound, read-complete, read-same, read-grows, read-stuck, read-deep}
-use Rattle.grammar.proofs.Laws.Sources.{read-unspent, read-takes, read-few, read-forest}
+use Rattle.grammar.proofs.Laws.Sources.{read-unspent, read-takes, read-few, read-forest, read-kinds, read-top}
 use Rattle.grammar.proofs.Laws.Answers.{answered-demands}
 
-pub fit17 : Fit language17
+unfoldable pub fit17 : Fit language17
 fit17 = record { marks = spelled17; hints = hints17; tests = passes17; steady = steady17 }
 
 module _ (source names : List ℕ) (ts : List Token) (scans : scan edition17 source ≡ clean ts) where
@@ -64,6 +66,15 @@ module _ (source names : List ℕ) (ts : List Token) (scans : scan edition17 sou
 
   pub forest17 : (n : ℕ) (rs : List Row) → DerivationOf language17 source names ts n rs → Forest n 0 (length ts) rs
   forest17 = read-forest language17 fit17 source names ts scans
+
+  -- the kinds of rows, and the program's row above all others
+  pub kinds17 : (n : ℕ) (rs : List Row) → DerivationOf language17 source names ts n rs → KindsTo namedTypeRow rs
+  unfolding fit17 hints17
+  kinds17 = read-kinds language17 fit17 source names ts scans
+
+  pub top17 : (n : ℕ) (rs : List Row) → DerivationOf language17 source names ts n rs → Top programRow (length ts) n rs
+  unfolding fit17 hints17
+  top17 = read-top language17 fit17 source names ts scans
 
 -- the answer for grammar 1.7 meets the three demands
 pub answer17-meets : MeetsDemands answer17

@@ -19,6 +19,7 @@ use Rattle.grammar.proofs.Laws.Follow.{Steady}
 use Rattle.grammar.proofs.Laws.Grows.{Grows, byLevels}
 use Rattle.grammar.proofs.Laws.Takes.{from, allTaken, takes-once}
 use Rattle.grammar.proofs.Laws.Forests.{forest}
+use Rattle.grammar.proofs.Laws.RowKinds.{KindsTo, kinds-known, Top, one-top}
 use Rattle.grammar.proofs.Laws.Readings.{Counted, reading-sound, reading-unspent, reading-complete, derivations-same}
 use Rattle.grammar.proofs.Laws.Readings.{reading-from, reading-grows, stuck-none, deep-none, derivation-few}
 use Rattle.grammar.proofs.Laws.Views.{classes, Kinds, items-length, items-kinds, view-counted}
@@ -105,3 +106,10 @@ module _ (l : Language) (fit : Fit l) (source names : List ℕ) (ts : List Token
 
   pub read-takes : (n : ℕ) (rs : List Row) → (d : DerivationOf l source names ts n rs) → allTaken d ≡ from 0 (length ts)
   read-takes n rs d = takes-once d
+
+  -- Its rows have kinds from 1 to the last, and one row is over all the tokens and above all other rows.
+  pub read-kinds : (n : ℕ) (rs : List Row) → DerivationOf l source names ts n rs → KindsTo (fit .hints .lastKind) rs
+  read-kinds n rs (derivation d) = kinds-known (fit .hints) (fit .hints .lastKind) (fit .tests .kinds) d
+
+  pub read-top : (n : ℕ) (rs : List Row) → DerivationOf l source names ts n rs → Top (fit .hints .topKind) (length ts) n rs
+  read-top n rs d = one-top (l .start) (fit .hints .topKind) (fit .tests .top) d
