@@ -8,6 +8,7 @@ pub mod Outcomes
 pub mod Sound
 pub mod Grows
 pub mod Fuel
+pub mod Places
 pub mod Takes
 pub mod Forests
 pub mod RowKinds

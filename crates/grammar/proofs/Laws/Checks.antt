@@ -5,7 +5,7 @@ use Prim.Native.Nat.{ℕ, zero, suc, _+_, _≤_, max}
 use mathlib.Core.Path.{_≡_}
 use mathlib.Core.Bool.{Bool, true, false}
 use mathlib.Core.List.{List, [], _∷_}
-use lib.Dec.{eqb, leb}
+use lib.Dec.{eqb, leb, ltb}
 use Rattle.lexer.specs.Tests.{and, or, between, pick, among}
 use Rattle.grammar.specs.Grammars.{endOfTokens, next, query, Symbol, token, part, condition, Makes, row, rowOf, says, noRow}
 use Rattle.grammar.specs.Grammars.{Production, agrees}
@@ -176,6 +176,19 @@ makesRow k noRow = false
 unfoldable pub tops : ℕ → ℕ → Production → Bool
 tops x k p = implies (eqb (p .left) x) (makesRow k (p .makes))
 
+-- a production that takes a level is not chosen at the end of the tokens, unless it is one of the start x
+unfoldable pub beforeEnd : List Production → ℕ → Production → Bool
+beforeEnd g x p =
+    let chosen = or (canBegin g endOfTokens p) (canSkip g endOfTokens p) in
+    or (eqb (p .left) x) (implies (ltb 0 (levels (p .makes))) (agrees false chosen))
+
+-- symbols among which a nonterminal does not stand
+unfoldable pub without : ℕ → List Symbol → Bool
+without x [] = true
+without x (token cs ∷ ss) = without x ss
+without x (part y ∷ ss) = and (agrees false (eqb y x)) (without x ss)
+without x (condition b q ∷ ss) = without x ss
+
 -- all tests of a table whose start is x, where classes are below a bound
 pub record Passes (g : List Production) (h : Hints) (bound x : ℕ) : Type 0 where
   pub closed : Closed g h bound
@@ -187,3 +200,6 @@ pub record Passes (g : List Production) (h : Hints) (bound x : ℕ) : Type 0 whe
   pub once : h .more x ≤ 1
   pub kinds : every (knownKind h (h .lastKind)) g ≡ true
   pub top : every (tops x (h .topKind)) g ≡ true
+  pub early : every (beforeEnd g x) g ≡ true
+  -- the start stands on no right side
+  pub apart : every (λ (p : Production). without x (p .right)) g ≡ true

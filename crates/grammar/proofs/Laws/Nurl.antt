@@ -9,7 +9,7 @@ use lib.Dec.{eqb}
 use Rattle.lexer.specs.Tests.{and, or, between, pick, among}
 use Rattle.lexer.specs.Kinds.{ident, keyword, boolean, dollar, ampersand, at, percent, colon, rightBrace, leftParen, rightParen}
 use Rattle.lexer.specs.Kinds.{leftBracket, rightBracket, bang, question, star, arrow}
-use Rattle.grammar.specs.Grammars.{endOfTokens, agrees, Names}
+use Rattle.grammar.specs.Grammars.{endOfTokens, agrees, Names, Production}
 use Rattle.grammar.specs.RowKinds.{programRow, namedTypeRow}
 use Rattle.grammar.specs.Rows.{levels}
 use Rattle.grammar.specs.First.{allows, skips, starts, anyOf, emptyWithin, firstWithin, empty, first, canBegin, canSkip}
@@ -28,7 +28,7 @@ use Rattle.typenames.specs.TypeNames.{Item}
 use Rattle.grammar.proofs.Laws.Checks.{Hints, implies, every, may, firstClosed, emptyClosed, flows, followClosed, live, asks}
 use Rattle.grammar.proofs.Laws.Checks.{opposed}
 use Rattle.grammar.proofs.Laws.Checks.{excludes, exclusive, below, noEnd, vanishes, needs, bounded, falls, fewerOf}
-use Rattle.grammar.proofs.Laws.Checks.{moreOf, fewRows, voiced, kindWithin, knownKind, makesRow, tops, Passes}
+use Rattle.grammar.proofs.Laws.Checks.{moreOf, fewRows, voiced, kindWithin, knownKind, makesRow, tops, Passes, beforeEnd, without}
 use Rattle.grammar.proofs.Laws.Follow.{Steady}
 use Rattle.grammar.proofs.Laws.Views.{classes, Kinds, class-below}
 
@@ -156,6 +156,17 @@ top17 : every (tops program (hints17 .topKind)) productions17 ≡ true
 unfolding and productions17 implies every makesRow tops hints17
 top17 = refl
 
+-- a row but the program's calls for a token
+early17 : every (beforeEnd productions17 program) productions17 ≡ true
+unfolding and or among agrees allows skips starts anyOf emptyWithin firstWithin empty first canBegin canSkip levels productions17
+    implies every beforeEnd
+early17 = refl
+
+-- no production derives a program
+apart17 : every (λ (p : Production). without program (p .right)) productions17 ≡ true
+unfolding and agrees productions17 every without
+apart17 = refl
+
 pub passes17 : Passes productions17 hints17 classes program
 unfolding hints17 follow among or
 passes17 = record {
@@ -167,6 +178,8 @@ passes17 = record {
   once = omega arith;
   kinds = kinds17;
   top = top17;
+  early = early17;
+  apart = apart17;
 }
 
 -- no nonterminal adds names, so that classes stay what they are

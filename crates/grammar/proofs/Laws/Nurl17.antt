@@ -1,5 +1,5 @@
 -- The theorems for NURL 1.7: the tokens of any source under any list of names. Assumes nothing.
-use Prim.Native.Nat.{ℕ, _+_, _*_, _≤_}
+use Prim.Native.Nat.{ℕ, _+_, _*_, _≤_, _<_}
 use mathlib.Core.Path.{_≡_}
 use mathlib.Core.List.{List}
 use lib.ListN.{length}
@@ -19,7 +19,8 @@ use Rattle.grammar.proofs.Laws.Takes.{from, allTaken}
 use Rattle.grammar.proofs.Laws.RowKinds.{KindsTo, Top}
 use Rattle.grammar.proofs.Laws.Nurl.{hints17, passes17, steady17}
 use Rattle.grammar.proofs.Laws.Sources.{Fit, ReadAs, read-sound, read-complete, read-same, read-grows, read-stuck, read-deep}
-use Rattle.grammar.proofs.Laws.Sources.{read-unspent, read-takes, read-few, read-forest, read-kinds, read-top}
+use Rattle.grammar.proofs.Laws.Sources.{read-unspent, read-takes, read-few, read-forest, read-kinds, read-top, read-stuck-at}
+use Rattle.grammar.proofs.Laws.Sources.{read-deep-at}
 use Rattle.grammar.proofs.Laws.Answers.{answered-demands}
 
 unfoldable pub fit17 : Fit language17
@@ -52,6 +53,12 @@ module _ (source names : List ℕ) (ts : List Token) (scans : scan edition17 sou
   pub deep17 : (n i : ℕ) (rs : List Row) → readTokens language17 n source names ts ≡ deep i
       → DerivationOf language17 source names ts n rs → ⊥
   deep17 = read-deep language17 fit17 source names ts scans
+
+  pub stuck-at17 : (n i : ℕ) → readTokens language17 n source names ts ≡ stuck i → i ≤ length ts
+  stuck-at17 = read-stuck-at language17 fit17 source names ts scans
+
+  pub deep-at17 : (n i : ℕ) → 1 ≤ n → readTokens language17 n source names ts ≡ deep i → i < length ts
+  deep-at17 = read-deep-at language17 fit17 source names ts scans
 
   -- 5. the fuel
   pub unspent17 : (n : ℕ) → readTokens language17 n source names ts ≡ spent → ⊥

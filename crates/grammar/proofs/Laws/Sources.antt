@@ -1,5 +1,5 @@
 -- The theorems about readings, of the tokens of a source under a list of names, for any language that is fit. Assumes nothing.
-use Prim.Native.Nat.{ℕ, _+_, _*_, _≤_}
+use Prim.Native.Nat.{ℕ, _+_, _*_, _≤_, _<_}
 use mathlib.Core.Path.{_≡_}
 use mathlib.Core.Bool.{true}
 use mathlib.Core.List.{List}
@@ -22,6 +22,7 @@ use Rattle.grammar.proofs.Laws.Forests.{forest}
 use Rattle.grammar.proofs.Laws.RowKinds.{KindsTo, kinds-known, Top, one-top}
 use Rattle.grammar.proofs.Laws.Readings.{Counted, reading-sound, reading-unspent, reading-complete, derivations-same}
 use Rattle.grammar.proofs.Laws.Readings.{reading-from, reading-grows, stuck-none, deep-none, derivation-few}
+use Rattle.grammar.proofs.Laws.Places.{stuck-at, deep-at}
 use Rattle.grammar.proofs.Laws.Views.{classes, Kinds, items-length, items-kinds, view-counted}
 
 -- what is asked of a language
@@ -88,6 +89,15 @@ module _ (l : Language) (fit : Fit l) (source names : List ℕ) (ts : List Token
   unfolding readTokens
   read-deep =
       deep-none (l .productions) (fit .hints) classes (l .start) (fit .tests) (viewOf l source ts) (length ts) steady counted _
+
+  -- Stuck is at a token or at the end of the tokens, too deep, where there is a level at all, at a token.
+  pub read-stuck-at : (n i : ℕ) → readTokens l n source names ts ≡ stuck i → i ≤ length ts
+  unfolding readTokens
+  read-stuck-at = stuck-at (l .productions) (fit .hints) classes (l .start) (fit .tests) (viewOf l source ts) (length ts) counted _
+
+  pub read-deep-at : (n i : ℕ) → 1 ≤ n → readTokens l n source names ts ≡ deep i → i < length ts
+  unfolding readTokens
+  read-deep-at = deep-at (l .productions) (fit .hints) classes (l .start) (fit .tests) (viewOf l source ts) (length ts) counted _
 
   -- 5. The explicit fuel suffices: every token list gets ok, stuck or too deep.
   pub read-unspent : (n : ℕ) → readTokens l n source names ts ≡ spent → ⊥
