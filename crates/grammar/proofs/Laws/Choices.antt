@@ -17,26 +17,31 @@ use Rattle.grammar.specs.Reading.{ready, Choice, none, one, find, orElse
 use Rattle.grammar.proofs.Laws.Checks.{Hints, implies, every, live, asks, opposed, excludes, exclusive}
 use Rattle.grammar.proofs.Laws.Tests.{and-both, implies-true, every-has}
 
--- the production that is found is one of the table, of the nonterminal that is asked for
-module _ (v : View) (e : Names) (i x : ℕ) (test : Production → Bool) where
-  found-by : (q : Production) (ps : List Production) (p : Production) (fits t : Bool) → and (eqb (q .left) x) fits ≡ t
-      → (find v e i x test ps ≡ one p → (Has ps p) × (p .left ≡ x))
-      → pick t (one q) (find v e i x test ps) ≡ one p → (Has (q ∷ ps) p) × (p .left ≡ x)
-  found-by q ps p fits true m later f =
-      let same : q ≡ p = cc in (
-        subst (λ (r : Production). Has (q ∷ ps) r) same here,
-        subst (λ (r : Production). r .left ≡ x) same (eqb-true (q .left) x (and-left (eqb (q .left) x) fits m)),
-      )
-  found-by q ps p fits false m later f =
-      let l = later f in
-      (there (l .0), l .1)
+-- the production that is found is one of the table, of the nonterminal that is asked for, and passes the test
+pub record Found (ps : List Production) (x : ℕ) (test : Production → Bool) (p : Production) : Type 0 where
+  pub has : Has ps p
+  pub of : p .left ≡ x
+  pub passes : test p ≡ true
 
-  pub found : (g : List Production) (p : Production) → find v e i x test g ≡ one p → (Has g p) × (p .left ≡ x)
+module _ (v : View) (e : Names) (i x : ℕ) (test : Production → Bool) where
+  found-by : (q : Production) (ps : List Production) (p : Production) (t : Bool)
+      → and (eqb (q .left) x) (and (test q) (ready v e i (q .right))) ≡ t
+      → (find v e i x test ps ≡ one p → Found ps x test p)
+      → pick t (one q) (find v e i x test ps) ≡ one p → Found (q ∷ ps) x test p
+  found-by q ps p true m later f =
+      let same : q ≡ p = cc in
+      let left = and-left (eqb (q .left) x) (and (test q) (ready v e i (q .right))) m in
+      let both = and-right (eqb (q .left) x) (and (test q) (ready v e i (q .right))) m in
+      subst (λ (r : Production). Found (q ∷ ps) x test r) same
+      (record { has = here; of = eqb-true (q .left) x left; passes = and-left (test q) (ready v e i (q .right)) both })
+  found-by q ps p false m later f =
+      let l = later f in
+      record { has = there (l .has); of = l .of; passes = l .passes }
+
+  pub found : (g : List Production) (p : Production) → find v e i x test g ≡ one p → Found g x test p
   unfolding find
   found [] p f = let z : _≡_ {A = ℕ} 0 1 = cc in absurd (omega arith)
-  found (q ∷ ps) p f =
-      let fits = and (test q) (ready v e i (q .right)) in
-      found-by q ps p fits (and (eqb (q .left) x) fits) refl (found ps p) f
+  found (q ∷ ps) p f = found-by q ps p (and (eqb (q .left) x) (and (test q) (ready v e i (q .right)))) refl (found ps p) f
 
 -- a production that one or else the other choice gives
 or-found : {P : Type 0} (a b : Choice) (p : Production) → (a ≡ one p → P) → (b ≡ one p → P) → orElse a b ≡ one p → P
@@ -44,14 +49,27 @@ unfolding orElse
 or-found none b p f k c = k c
 or-found (one q) b p f k c = f c
 
--- the production that is chosen is one of the table, of the nonterminal that is asked for
+-- the production that is chosen is one of the table, of the nonterminal that is asked for ..
 pub chosen : (g : List Production) (v : View) (e : Names) (x i : ℕ) (p : Production) → choice g v e x i ≡ one p
     → (Has g p) × (p .left ≡ x)
 unfolding choice
 chosen g v e x i p c =
     let class = v .class e i in
     or-found (find v e i x (canBegin g class) g) (find v e i x (canSkip g class) g) p
-    (found v e i x (canBegin g class) g p) (found v e i x (canSkip g class) g p) c
+    (λ (f : find v e i x (canBegin g class) g ≡ one p). let l = found v e i x (canBegin g class) g p f in (l .has, l .of))
+    (λ (f : find v e i x (canSkip g class) g ≡ one p). let l = found v e i x (canSkip g class) g p f in (l .has, l .of)) c
+
+-- .. and can begin with the token there, or derive none before it
+pub chosen-passes : (g : List Production) (v : View) (e : Names) (x i : ℕ) (p : Production) → choice g v e x i ≡ one p
+    → or (canBegin g (v .class e i) p) (canSkip g (v .class e i) p) ≡ true
+unfolding choice
+chosen-passes g v e x i p c =
+    let class = v .class e i in
+    or-found (find v e i x (canBegin g class) g) (find v e i x (canSkip g class) g) p
+    (λ (f : find v e i x (canBegin g class) g ≡ one p).
+    or-left (canBegin g class p) (canSkip g class p) (found v e i x (canBegin g class) g p f .passes))
+    (λ (f : find v e i x (canSkip g class) g ≡ one p).
+    or-right (canBegin g class p) (canSkip g class p) (found v e i x (canSkip g class) g p f .passes)) c
 
 -- opposite conditions at the front are not both met
 module _ (v : View) (e : Names) (i : ℕ) where

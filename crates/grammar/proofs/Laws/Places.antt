@@ -7,50 +7,19 @@ use mathlib.Core.List.{List, [], _∷_}
 use native.Mathlib.Omega.{arith}
 use lib.Dec.{eqb, ltb}
 use borrow.Author.Tests.{lt-ltb}
-use Rattle.lexer.specs.Tests.{and, or, pick, among}
-use Rattle.lexer.proofs.Laws.Tests.{and-left, and-right, or-else, or-left, or-right}
+use Rattle.lexer.specs.Tests.{or, pick, among}
+use Rattle.lexer.proofs.Laws.Tests.{and-left, and-right, or-else}
 use Rattle.grammar.specs.Grammars.{endOfTokens, next, Symbol, token, part, condition, when, Makes, row, rowOf, says, noRow}
 use Rattle.grammar.specs.Grammars.{Production, Names, View, agrees, met}
 use Rattle.grammar.specs.Rows.{Row, levels}
 use Rattle.grammar.specs.First.{canBegin, canSkip}
-use Rattle.grammar.specs.Reading.{Outcome, ok, stuck, deep, spent, ready, Choice, none, one, find, orElse, choice, onward}
+use Rattle.grammar.specs.Reading.{Outcome, ok, stuck, deep, spent, Choice, none, one, choice, onward}
 use Rattle.grammar.specs.Reading.{descend, enter, joined, readWithin, breadth, whole, reading}
 use Rattle.grammar.proofs.Laws.Checks.{Hints, implies, noEnd, falls, beforeEnd, without, Passes}
 use Rattle.grammar.proofs.Laws.Tests.{implies-true, every-has}
-use Rattle.grammar.proofs.Laws.Choices.{chosen}
+use Rattle.grammar.proofs.Laws.Choices.{chosen, chosen-passes}
 use Rattle.grammar.proofs.Laws.Fuel.{falls-of, not-end}
 use Rattle.grammar.proofs.Laws.Readings.{Counted}
-
--- the production that is found passes the test
-module _ (v : View) (e : Names) (i x : ℕ) (test : Production → Bool) where
-  found-by : (q : Production) (ps : List Production) (p : Production) (conditions t : Bool)
-      → and (eqb (q .left) x) (and (test q) conditions) ≡ t → (find v e i x test ps ≡ one p → test p ≡ true)
-      → pick t (one q) (find v e i x test ps) ≡ one p → test p ≡ true
-  found-by q ps p conditions true m later f =
-      let same : q ≡ p = cc in
-      let both = and-right (eqb (q .left) x) (and (test q) conditions) m in
-      subst (λ (r : Production). test r ≡ true) same (and-left (test q) conditions both)
-  found-by q ps p conditions false m later f = later f
-
-  found-passes : (g : List Production) (p : Production) → find v e i x test g ≡ one p → test p ≡ true
-  unfolding find
-  found-passes [] p f = let z : _≡_ {A = ℕ} 0 1 = cc in absurd (omega arith)
-  found-passes (q ∷ ps) p f = found-by q ps p (ready v e i (q .right)) _ refl (found-passes ps p) f
-
-or-passes : (a b : Choice) (p : Production) (s t : Bool) → (a ≡ one p → s ≡ true) → (b ≡ one p → t ≡ true) → orElse a b ≡ one p
-    → or s t ≡ true
-unfolding orElse
-or-passes none b p s t f k c = or-right s t (k c)
-or-passes (one q) b p s t f k c = or-left s t (f c)
-
--- the production that is chosen can begin with the token there, or derive none before it
-pub chosen-passes : (g : List Production) (v : View) (e : Names) (x i : ℕ) (p : Production) → choice g v e x i ≡ one p
-    → or (canBegin g (v .class e i) p) (canSkip g (v .class e i) p) ≡ true
-unfolding choice
-chosen-passes g v e x i p c =
-    let class = v .class e i in
-    or-passes (find v e i x (canBegin g class) g) (find v e i x (canSkip g class) g) p (canBegin g class p) (canSkip g class p)
-    (found-passes v e i x (canBegin g class) g p) (found-passes v e i x (canSkip g class) g p) c
 
 not-both : (t : Bool) → agrees false t ≡ true → t ≡ true → ⊥
 unfolding agrees
