@@ -15,6 +15,7 @@ pub mod RowKinds
 pub mod Readings
 pub mod Views
 pub mod Nurl
+pub mod Structs
 pub mod Sources
 pub mod Answers
 pub mod Nurl17

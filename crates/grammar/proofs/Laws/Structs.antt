@@ -1,0 +1,180 @@
+-- The conditions on `opensStruct` in the table of NURL 1.7 lose no derivation: where the other symbols of a struct derive anything,
+-- the answer is yes, and where those of a constant do, it is no. Assumes nothing.
+use Prim.Native.Nat.{ℕ, zero, suc, _≤_}
+use mathlib.Core.Path.{_≡_, refl, _∙_, sym, ap}
+use mathlib.Core.Bool.{Bool, true, false, false≢true}
+use mathlib.Core.List.{List, [], _∷_}
+use native.Mathlib.Omega.{arith}
+use lib.Dec.{eqb}
+use lib.ListN.{drop, getD}
+use borrow.Author.Tests.{eqb-true, eq-eqb, ne-eqb}
+use Rattle.lexer.specs.Tests.{and, or, pick, among}
+use Rattle.lexer.specs.Kinds.{ident, leftBrace, leftBracket, lastKind}
+use Rattle.lexer.proofs.Laws.Tests.{and-left, or-left, or-right}
+use Rattle.typenames.specs.TypeNames.{Item, isNamed}
+use Rattle.grammar.specs.Grammars.{endOfTokens, query, Symbol, token, part, condition, when, unless, row, noRow, Production}
+use Rattle.grammar.specs.Grammars.{Names, View, agrees, asked, met}
+use Rattle.grammar.specs.Rows.{Row}
+use Rattle.grammar.specs.Derivations.{Has, here, there, Derives, end, taken, held, entered}
+use Rattle.grammar.specs.RowKinds.{namedTypeRow}
+use Rattle.grammar.specs.Nonterminals.{mutable, typeParameters, nameList, type}
+use Rattle.grammar.specs.Classes.{typeName, name, typeWord}
+use Rattle.grammar.specs.Questions.{Piece, oneOf, fits, fitsOne, answerTo}
+use Rattle.grammar.specs.Nurl.{one, rule, opensNames, opensStruct, questions17, productions17}
+use Rattle.grammar.specs.Languages.{language17, noItem, classOf, view}
+use Rattle.grammar.proofs.Laws.Views.{Kinds, kinds-none, kinds-more}
+
+or-false : (a : Bool) → or a false ≡ a
+unfolding or
+or-false true = refl
+or-false false = refl
+
+among-one : (k n : ℕ) → among (k ∷ []) n ≡ true → n ≡ k
+unfolding among
+among-one k n h = sym (eqb-true k n (sym (or-false _) ∙ h))
+
+-- a token of some classes: its kind is among them, or it is an IDENT and the class of type names is
+taken-by : {P : Type 0} (cs : List ℕ) (e : Names) (t : Item) → among cs (classOf e t) ≡ true
+    → (among cs (t .kind) ≡ true → P) → (t .kind ≡ ident → among cs typeName ≡ true → P) → P
+unfolding classOf
+taken-by {P} cs e t h plain named = cases (and (eqb (t .kind) ident) (isNamed e (t .text))) refl h
+  where
+    cases : (b : Bool) → and (eqb (t .kind) ident) (isNamed e (t .text)) ≡ b → among cs (pick b typeName (t .kind)) ≡ true → P
+    cases true s = named (eqb-true (t .kind) ident (and-left _ _ s))
+    cases false s = plain
+
+name-kind : (e : Names) (t : Item) → t .kind ≤ lastKind → among name (classOf e t) ≡ true → t .kind ≡ ident
+unfolding among or
+name-kind e t low h =
+    let other = ne-eqb typeName (t .kind) (λ (q : typeName ≡ t .kind). omega arith) in
+    taken-by name e t h (λ s. among-one ident (t .kind) (rw other at s)) (λ k s. k)
+
+brace-kind : (e : Names) (t : Item) → among (leftBrace ∷ []) (classOf e t) ≡ true → t .kind ≡ leftBrace
+unfolding among or
+brace-kind e t h = taken-by (leftBrace ∷ []) e t h (among-one leftBrace (t .kind)) (λ k s. absurd (false≢true s))
+
+kind-below : {ts : List Item} → Kinds ts → (i : ℕ) → getD ts i noItem .kind ≤ lastKind
+kind-below kinds-none i = omega arith
+kind-below (kinds-more low high k) zero = high
+kind-below (kinds-more low high k) (suc i) = kind-below k i
+
+-- a pattern that begins with a token of some kinds
+fits-at : (ks : List ℕ) (ps : List Piece) (ts : List Item) (i : ℕ) → among ks endOfTokens ≡ false
+    → fits (oneOf ks ∷ ps) (drop i ts) ≡ and (among ks (getD ts i noItem .kind)) (fits ps (drop (suc i) ts))
+unfolding fits and
+fits-at ks ps [] zero none = rw none
+fits-at ks ps [] (suc i) none = rw none
+fits-at ks ps (t ∷ ts) zero none = refl
+fits-at ks ps (t ∷ ts) (suc i) none = fits-at ks ps ts i none
+
+-- the productions of a nonterminal whose right sides pass a test
+module _ (x : ℕ) (test : List Symbol → Bool) where
+  unfoldable those : List Production → List Production
+  those [] = []
+  those (p ∷ ps) =
+      let rest = those ps in
+      pick (and (eqb (p .left) x) (test (p .right))) (p ∷ rest) rest
+
+  has-those : {g : List Production} {p : Production} → Has g p → p .left ≡ x → test (p .right) ≡ true → Has (those g) p
+  unfolding those and
+  has-those (here {p = p}) left t = rw (eq-eqb (p .left) x left, t) here
+  has-those {p = p} (there {q = q} {ps = ps} has) left t = cases (and (eqb (q .left) x) (test (q .right))) (has-those has left t)
+    where
+      cases : (b : Bool) → Has (those ps) p → Has (pick b (q ∷ those ps) (those ps)) p
+      cases true more = there more
+      cases false more = more
+
+-- symbols that may derive something where an IDENT is next
+unfoldable atName : List Symbol → Bool
+atName [] = true
+atName (token cs ∷ ss) = or (among cs ident) (among cs typeName)
+atName (part x ∷ ss) = true
+atName (condition b q ∷ ss) = true
+
+-- there `mutable` has only its empty production and `type` only the named type
+mutable17 : those mutable atName productions17 ≡ rule mutable noRow [] ∷ []
+unfolding and or among productions17 those atName
+mutable17 = refl
+
+type17 : those type atName productions17 ≡ rule type (row namedTypeRow) (token typeWord ∷ []) ∷ []
+unfolding and or among productions17 those atName
+type17 = refl
+
+none-taken : {g : List Production} {v : View} {e : Names} {n i j said : ℕ} {p : Production} {rows : List Row}
+    → Has (rule mutable noRow [] ∷ []) p → Derives g v e n (p .right) i j rows said → j ≡ i
+none-taken here end = refl
+
+one-taken : {g : List Production} {v : View} {e : Names} {n i j said : ℕ} {p : Production} {rows : List Row}
+    → Has (rule type (row namedTypeRow) (token typeWord ∷ []) ∷ []) p → Derives g v e n (p .right) i j rows said → j ≡ suc i
+one-taken here (taken h end) = refl
+
+-- the productions of `typeParameters`
+abbrev lists : List Production
+lists =
+    rule typeParameters noRow (when (query opensNames) ∷ part nameList ∷ []) ∷
+    rule typeParameters noRow (unless (query opensNames) ∷ []) ∷ []
+
+lists17 : those typeParameters (λ ss. true) productions17 ≡ lists
+unfolding and productions17 those
+lists17 = refl
+
+abbrev opening : List ℕ
+opening = leftBrace ∷ leftBracket ∷ []
+
+module _ (ts : List Item) where
+  abbrev kindAt : ℕ → ℕ
+  kindAt i = getD ts i noItem .kind
+
+  at-name : {g : List Production} {e : Names} {n i j said : ℕ} {ss : List Symbol} {rows : List Row}
+      → Derives g (view language17 ts) e n ss i j rows said → kindAt i ≡ ident → atName ss ≡ true
+  unfolding atName view
+  at-name end k = refl
+  at-name (taken {e = e} {i = i} {cs = cs} h d) k =
+      taken-by cs e (getD ts i noItem) h (λ s. or-left _ _ (rw k at s)) (λ k s. or-right (among cs ident) _ s)
+  at-name (held h d) k = refl
+  at-name (entered has left level inner rest) k = refl
+
+  -- what the questions ask
+  names-open : (i : ℕ) → view language17 ts .holds opensNames i ≡ true → kindAt i ≡ leftBracket
+  unfolding view answerTo questions17 fitsOne among or
+  names-open i h =
+      among-one leftBracket (kindAt i) (and-left _ _ (sym (fits-at (leftBracket ∷ []) _ ts i refl) ∙ sym (or-false _) ∙ h))
+
+  struct-opens : (i : ℕ)
+      → view language17 ts .holds opensStruct i ≡ and (among (ident ∷ []) (kindAt i)) (and (among opening (kindAt (suc i))) true)
+  unfolding view answerTo questions17 fitsOne fits among or
+  struct-opens i =
+      or-false _ ∙ fits-at (ident ∷ []) (oneOf opening ∷ []) ts i refl ∙ ap (and _) (fits-at opening [] ts (suc i) refl)
+
+  -- type parameters before a `{` begin with `[` or are nothing
+  list-opens : {g : List Production} {e : Names} {n i j said : ℕ} {p : Production} {rows : List Row} → Has lists p
+      → Derives g (view language17 ts) e n (p .right) i j rows said → kindAt j ≡ leftBrace → among opening (kindAt i) ≡ true
+  unfolding view among or met asked agrees
+  list-opens here (held {i = i} h d) brace = rw (names-open i h)
+  list-opens (there here) (held h end) brace = rw brace
+
+  -- a struct
+  pub struct-asked : Kinds ts → {e : Names} {n i j said : ℕ} {ss : List Symbol} {rows : List Row}
+      → Derives productions17 (view language17 ts) e n (token name ∷ part typeParameters ∷ one leftBrace ∷ ss) i j rows said
+      → view language17 ts .holds opensStruct i ≡ true
+  unfolding view and among or
+  struct-asked kinds (taken {e = e} {i = i} h (entered {j = j} has left level inner (taken b d))) =
+      let list = rw lists17 at (has-those typeParameters (λ ss. true) has left refl) in
+      let opens = list-opens list inner (brace-kind e (getD ts j noItem) b) in
+      rw (struct-opens i, name-kind e (getD ts i noItem) (kind-below kinds i) h, opens)
+
+  -- a constant: if its first token is an IDENT, so is the second
+  pub constant-asked : Kinds ts → {e : Names} {n i j said : ℕ} {ss : List Symbol} {rows : List Row}
+      → Derives productions17 (view language17 ts) e n (part mutable ∷ part type ∷ token name ∷ ss) i j rows said
+      → view language17 ts .holds opensStruct i ≡ false
+  unfolding view and among or
+  constant-asked kinds (entered {e = e} {i = i} m left level first (entered {j = k} t also deep second (taken h d))) =
+      struct-opens i ∙ cases (among (ident ∷ []) (kindAt i)) refl
+    where
+      cases : (b : Bool) → among (ident ∷ []) (kindAt i) ≡ b → and b (and (among opening (kindAt (suc i))) true) ≡ false
+      cases true a =
+          let front = among-one ident (kindAt i) a in
+          let none = none-taken (rw mutable17 at (has-those mutable atName m left (at-name first front))) first in
+          let single = one-taken (rw type17 at (has-those type atName t also (at-name second (rw none front)))) second in
+          rw (← none, ← single, name-kind e (getD ts k noItem) (kind-below kinds k) h)
+      cases false a = refl
