@@ -2,8 +2,8 @@
 -- the classes are 0, the end, to 43.
 use Prim.Native.Nat.{ℕ}
 use mathlib.Core.List.{List, [], _∷_}
-use Rattle.lexer.specs.Kinds.{ident, keyword, boolean, int, float, string, ampersand, percent, bar, star, plus, minus, slash}
-use Rattle.lexer.specs.Kinds.{less, greater, equalEqual, bangEqual, lessEqual, greaterEqual, lessLess, greaterGreater}
+use Rattle.lexer.specs.Kinds.{ident, keyword, boolean, int, float, string, ampersand, percent, bar, star, plus, minus, slash, less}
+use Rattle.lexer.specs.Kinds.{greater, equalEqual, bangEqual, lessEqual, greaterEqual, lessLess, greaterGreater}
 
 -- an IDENT in N; as a class, `ident` is then an IDENT that is not in N
 abbrev pub typeName : ℕ

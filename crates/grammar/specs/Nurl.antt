@@ -11,17 +11,16 @@ use Rattle.grammar.specs.Grammars.{Condition, next, query, Symbol, token
 use Rattle.grammar.specs.Grammars.{Production}
 use Rattle.grammar.specs.RowKinds.{programRow, importRow, foreignRow, traitRow, implRow, functionRow, structRow, enumRow}
 use Rattle.grammar.specs.RowKinds.{constantRow, headerRow, parameterRow, variantRow, listRow, blockRow, letRow, setNameRow}
-use Rattle.grammar.specs.RowKinds.{setElementRow, deferRow, whileRow, foreachRow, literalRow, nameRow, binaryRow, notRow}
-use Rattle.grammar.specs.RowKinds.{returnRow, complementRow, tryRow, closureRow, sizeofRow, aggregateRow, sliceRow}
-use Rattle.grammar.specs.RowKinds.{conditionalRow, callRow, memberRow, castRow, matchRow, armRow, payloadRow, baseTypeRow}
-use Rattle.grammar.specs.RowKinds.{pointerRow, optionalRow, sliceTypeRow, resultRow, functionTypeRow, instanceRow, namedTypeRow}
-use Rattle.grammar.specs.Nonterminals.{program, declarations, declaration, alias, interface, interfaceRest, methods, method}
-use Rattle.grammar.specs.Nonterminals.{body, functions, function, definition, mutable, fields, field, fieldName, parameters}
-use Rattle.grammar.specs.Nonterminals.{parameter, variants, variant, payloadTypes, typeParameters, nameList, moreNames, block}
-use Rattle.grammar.specs.Nonterminals.{statements, statement, binding, assignment, tildeStatement, loopOrComplement}
-use Rattle.grammar.specs.Nonterminals.{expressions, expression, literal, tryOrClosure, typeArguments, wordList, moreWords}
-use Rattle.grammar.specs.Nonterminals.{castRest, selector, arms, arm, payloads3, payloads2, payloads1, payload, types, type}
-use Rattle.grammar.specs.Nonterminals.{parenthesized}
+use Rattle.grammar.specs.RowKinds.{setElementRow, deferRow, whileRow, foreachRow, literalRow, nameRow, binaryRow, notRow, returnRow}
+use Rattle.grammar.specs.RowKinds.{complementRow, tryRow, closureRow, sizeofRow, aggregateRow, sliceRow, conditionalRow, callRow}
+use Rattle.grammar.specs.RowKinds.{memberRow, castRow, matchRow, armRow, payloadRow, baseTypeRow, pointerRow, optionalRow}
+use Rattle.grammar.specs.RowKinds.{sliceTypeRow, resultRow, functionTypeRow, instanceRow, namedTypeRow}
+use Rattle.grammar.specs.Nonterminals.{program, declarations, declaration, alias, interface, interfaceRest, methods, method, body}
+use Rattle.grammar.specs.Nonterminals.{functions, function, definition, mutable, fields, field, fieldName, parameters, parameter}
+use Rattle.grammar.specs.Nonterminals.{variants, variant, payloadTypes, typeParameters, nameList, moreNames, block, statements}
+use Rattle.grammar.specs.Nonterminals.{statement, binding, assignment, tildeStatement, loopOrComplement, expressions, expression}
+use Rattle.grammar.specs.Nonterminals.{literal, tryOrClosure, typeArguments, wordList, moreWords, castRest, selector, arms, arm}
+use Rattle.grammar.specs.Nonterminals.{payloads3, payloads2, payloads1, payload, types, type, parenthesized}
 use Rattle.grammar.specs.Classes.{name, declaredWord, word, typeWord, armHead, payloadToken, literals, operators}
 use Rattle.grammar.specs.Questions.{Piece, oneOf, someOf, spelled, Question}
 

@@ -23,10 +23,10 @@ use Rattle.grammar.specs.Reading.{Outcome, ok, stuck, deep, spent}
 use Rattle.grammar.specs.Languages.{Language}
 use Rattle.grammar.specs.TreeTable.{treeRoom, placed, cleared}
 use Rattle.grammar.specs.Sources.{DerivationOf, readTokens}
-use Rattle.grammar.specs.Answers.{Verdict, early, late, accept, judged, scannedTokens, checkedNames, verdict}
-use Rattle.grammar.specs.Answers.{Result, result, answered}
-use Rattle.grammar.specs.Demands.{Admitted, Readable, Room, Refusal, too-long, bad-names, bad-byte, open-string}
-use Rattle.grammar.specs.Demands.{few-token-rows, no-program, too-deep, few-tree-rows, Acceptance, Demands}
+use Rattle.grammar.specs.Answers.{Verdict, early, late, accept, judged, scannedTokens, checkedNames, verdict, Result, result}
+use Rattle.grammar.specs.Answers.{answered}
+use Rattle.grammar.specs.Demands.{Admitted, Readable, Room, Refusal, too-long, bad-names, bad-byte, open-string, few-token-rows}
+use Rattle.grammar.specs.Demands.{no-program, too-deep, few-tree-rows, Acceptance, Demands}
 use Rattle.grammar.specs.declared.Answer.the-variants.{Accepted, Refused}
 use Rattle.grammar.proofs.Laws.Sources.{Fit, ReadAs, read-as, read-sound, read-complete, read-same, read-stuck, read-deep}
 use Rattle.grammar.proofs.Laws.Sources.{read-unspent}

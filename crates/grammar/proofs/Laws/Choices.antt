@@ -9,8 +9,7 @@ use lib.Dec.{eqb}
 use borrow.Author.Tests.{eqb-true, eq-eqb}
 use Rattle.lexer.specs.Tests.{and, or, pick, among}
 use Rattle.lexer.proofs.Laws.Tests.{and-left, and-right, or-else, or-left, or-right}
-use Rattle.grammar.specs.Grammars.{next, query, Symbol, token, part, condition, Production, Names, View}
-use Rattle.grammar.specs.Grammars.{agrees, asked, met}
+use Rattle.grammar.specs.Grammars.{next, query, Symbol, token, part, condition, Production, Names, View, agrees, asked, met}
 use Rattle.grammar.specs.Derivations.{Has, here, there}
 use Rattle.grammar.specs.First.{canBegin, canSkip}
 use Rattle.grammar.specs.Reading.{ready, Choice, none, one, find, orElse, choice}

@@ -11,8 +11,7 @@ use Rattle.lexer.specs.Tests.{and, pick, among}
 use Rattle.lexer.proofs.Laws.Tests.{and-left, and-right}
 use Rattle.grammar.specs.Grammars.{Condition, Symbol, token, part, condition, Production, Names, View, agrees, met}
 use Rattle.grammar.specs.Rows.{Row, levels}
-use Rattle.grammar.specs.Reading.{Outcome, ok, spent, one, choice}
-use Rattle.grammar.specs.Reading.{joined, readWithin, breadth, whole, reading}
+use Rattle.grammar.specs.Reading.{Outcome, ok, spent, one, choice, joined, readWithin, breadth, whole, reading}
 use Rattle.grammar.proofs.Laws.Tests.{and-else, implies-false, every-has}
 use Rattle.grammar.proofs.Laws.Choices.{chosen}
 use Rattle.grammar.proofs.Laws.Outcomes.{Ends, upTo, out, ends-ok, ends-spent, ends-over, ends-both, ends-pick, ends-onward}

@@ -15,9 +15,8 @@ use Rattle.grammar.specs.Rows.{levels}
 use Rattle.grammar.specs.First.{allows, skips, starts, anyOf, emptyWithin, firstWithin, empty, first, canBegin, canSkip}
 use Rattle.grammar.specs.Reading.{breadth, whole}
 use Rattle.grammar.specs.Classes.{typeName}
-use Rattle.grammar.specs.Nonterminals.{interface, function}
-use Rattle.grammar.specs.Nonterminals.{program, declarations, declaration, alias, methods, method, body, functions}
-use Rattle.grammar.specs.Nonterminals.{definition, mutable, fields, parameters, variants, variant, payloadTypes}
+use Rattle.grammar.specs.Nonterminals.{interface, function, program, declarations, declaration, alias, methods, method, body}
+use Rattle.grammar.specs.Nonterminals.{functions, definition, mutable, fields, parameters, variants, variant, payloadTypes}
 use Rattle.grammar.specs.Nonterminals.{fieldName, typeParameters, moreNames, statements, loopOrComplement, expressions}
 use Rattle.grammar.specs.Nonterminals.{typeArguments, moreWords, selector, arms, payloads3, payloads2, payloads1, types, type}
 use Rattle.grammar.specs.Nonterminals.{interfaceRest, field, parameter, statement, binding, tildeStatement, expression}
@@ -26,8 +25,7 @@ use Rattle.grammar.specs.Nurl.{productions17}
 use Rattle.grammar.specs.Languages.{language17, view}
 use Rattle.typenames.specs.TypeNames.{Item}
 use Rattle.grammar.proofs.Laws.Checks.{Hints, implies, every, may, firstClosed, emptyClosed, flows, followClosed, live, asks}
-use Rattle.grammar.proofs.Laws.Checks.{opposed}
-use Rattle.grammar.proofs.Laws.Checks.{excludes, exclusive, below, noEnd, vanishes, needs, bounded, falls, fewerOf}
+use Rattle.grammar.proofs.Laws.Checks.{opposed, excludes, exclusive, below, noEnd, vanishes, needs, bounded, falls, fewerOf}
 use Rattle.grammar.proofs.Laws.Checks.{moreOf, fewRows, voiced, kindWithin, knownKind, makesRow, tops, Passes, beforeEnd, without}
 use Rattle.grammar.proofs.Laws.Follow.{Steady}
 use Rattle.grammar.proofs.Laws.Views.{classes, Kinds, class-below}

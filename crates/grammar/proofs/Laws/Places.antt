@@ -13,8 +13,8 @@ use Rattle.grammar.specs.Grammars.{endOfTokens, next, Symbol, token, par
 use Rattle.grammar.specs.Grammars.{Production, Names, View, agrees, met}
 use Rattle.grammar.specs.Rows.{Row, levels}
 use Rattle.grammar.specs.First.{canBegin, canSkip}
-use Rattle.grammar.specs.Reading.{Outcome, ok, stuck, deep, spent, Choice, none, one, choice, onward}
-use Rattle.grammar.specs.Reading.{descend, enter, joined, readWithin, breadth, whole, reading}
+use Rattle.grammar.specs.Reading.{Outcome, ok, stuck, deep, spent, Choice, none, one, choice, onward, descend, enter, joined}
+use Rattle.grammar.specs.Reading.{readWithin, breadth, whole, reading}
 use Rattle.grammar.proofs.Laws.Checks.{Hints, implies, noEnd, falls, beforeEnd, without, Passes}
 use Rattle.grammar.proofs.Laws.Tests.{implies-true, every-has}
 use Rattle.grammar.proofs.Laws.Choices.{chosen, chosen-passes}

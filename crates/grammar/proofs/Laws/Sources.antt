@@ -20,8 +20,8 @@ use Rattle.grammar.proofs.Laws.Grows.{Grows, byLevels}
 use Rattle.grammar.proofs.Laws.Takes.{from, allTaken, takes-once}
 use Rattle.grammar.proofs.Laws.Forests.{forest}
 use Rattle.grammar.proofs.Laws.RowKinds.{KindsTo, kinds-known, Top, one-top}
-use Rattle.grammar.proofs.Laws.Readings.{Counted, reading-sound, reading-unspent, reading-complete, derivations-same}
-use Rattle.grammar.proofs.Laws.Readings.{reading-from, reading-grows, stuck-none, deep-none, derivation-few}
+use Rattle.grammar.proofs.Laws.Readings.{Counted, reading-sound, reading-unspent, reading-complete, derivations-same, reading-from}
+use Rattle.grammar.proofs.Laws.Readings.{reading-grows, stuck-none, deep-none, derivation-few}
 use Rattle.grammar.proofs.Laws.Places.{stuck-at, deep-at}
 use Rattle.grammar.proofs.Laws.Views.{classes, Kinds, items-length, items-kinds, view-counted}
 

@@ -12,8 +12,8 @@ use Rattle.lexer.specs.Tests.{and, or, pick, among}
 use Rattle.lexer.specs.Kinds.{ident, leftBrace, leftBracket, lastKind}
 use Rattle.lexer.proofs.Laws.Tests.{and-left, or-left, or-right}
 use Rattle.typenames.specs.TypeNames.{Item, isNamed}
-use Rattle.grammar.specs.Grammars.{endOfTokens, query, Symbol, token, part, condition, when, unless, row, noRow, Production}
-use Rattle.grammar.specs.Grammars.{Names, View, agrees, asked, met}
+use Rattle.grammar.specs.Grammars.{endOfTokens, query, Symbol, token, part, condition, when, unless, row, noRow, Production, Names}
+use Rattle.grammar.specs.Grammars.{View, agrees, asked, met}
 use Rattle.grammar.specs.Rows.{Row}
 use Rattle.grammar.specs.Derivations.{Has, here, there, Derives, end, taken, held, entered}
 use Rattle.grammar.specs.RowKinds.{namedTypeRow}
