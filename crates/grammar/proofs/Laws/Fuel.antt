@@ -14,13 +14,13 @@ use Rattle.grammar.specs.Rows.{Row, levels}
 use Rattle.grammar.specs.Reading.{Outcome, ok, spent, one, choice, joined, readWithin, breadth, whole, reading}
 use Rattle.grammar.proofs.Laws.Tests.{and-else, implies-false, every-has}
 use Rattle.grammar.proofs.Laws.Choices.{chosen}
-use Rattle.grammar.proofs.Laws.Outcomes.{Ends, upTo, out, ends-ok, ends-spent, ends-over, ends-both, ends-pick, ends-onward}
-use Rattle.grammar.proofs.Laws.Outcomes.{ends-enter}
+use Rattle.grammar.proofs.Laws.Outcomes.{Ends, Anywhere, upTo, out, ends-ok, ends-spent, ends-over, ends-both, ends-pick}
+use Rattle.grammar.proofs.Laws.Outcomes.{ends-onward, ends-enter}
 use Rattle.grammar.proofs.Laws.Checks.{Hints, implies, every, noEnd, vanishes, needs, bounded, falls}
 
 -- what holds of the token that is read up to, or where the fuel is spent
 abbrev UpTo : (ℕ → Type 0) → Type 0 → Outcome → Type 0
-UpTo P S = Ends (λ (j : ℕ) (rows : List Row) (said : ℕ). P j) S
+UpTo P S = Ends (λ (j : ℕ) (rows : List Row) (said : ℕ). P j) Anywhere Anywhere S
 
 -- how far symbols are read from token i on: up to j
 pub record Advances (h : Hints) (v : View) (ss : List Symbol) (i j : ℕ) : Type 0 where
@@ -114,13 +114,13 @@ module _ (g : List Production) (v : View) (h : Hints) (w : ℕ) (good : every (f
   advances-within zero e n ss i = out tt
   advances-within (suc f) e n [] i = upTo (advances-none h v i)
   advances-within (suc f) e n (token cs ∷ ss) i =
-      ends-pick (among cs (v .class e i)) (readWithin g v f e n ss (suc i)) i (λ (t : among cs (v .class e i) ≡ true).
+      ends-pick (among cs (v .class e i)) (readWithin g v f e n ss (suc i)) i tt (λ (t : among cs (v .class e i) ≡ true).
       ends-over (advances-within f e n ss (suc i)) (λ (j : ℕ) (rows : List Row) (said : ℕ). advances-token h v cs ss e i j t))
   advances-within (suc f) e n (condition b q ∷ ss) i =
-      ends-pick (met v e i b q) (readWithin g v f e n ss i) i (λ (t : met v e i b q ≡ true).
+      ends-pick (met v e i b q) (readWithin g v f e n ss i) i tt (λ (t : met v e i b q ≡ true).
       ends-over (advances-within f e n ss i) (λ (j : ℕ) (rows : List Row) (said : ℕ). advances-condition h v b q ss i j))
   advances-within (suc f) e n (part x ∷ ss) i =
-      ends-enter (choice g v (v .inside x i e) x i) n i _ (λ (p : Production) (below : ℕ) (c : choice g v (v .inside x i e) x i ≡ one p)
+      ends-enter (choice g v (v .inside x i e) x i) n i _ tt (λ p c l. tt) (λ (p : Production) (below : ℕ) (c : choice g v (v .inside x i e) x i ≡ one p)
       (fit : n ≡ levels (p .makes) + below).
       ends-onward _ (advances-within f (v .inside x i e) below (p .right) i)
       (λ (j : ℕ) (inner : List Row) (said : ℕ) (a : Advances h v (p .right) i j).
@@ -179,7 +179,7 @@ module _ (g : List Production) (v : View) (h : Hints) (w count : ℕ) (good : ev
   unspent zero e n ss i a b u = let some = needs-some h ss in absurd (omega arith)
   unspent (suc f) e n [] i a b u = upTo tt
   unspent (suc f) e n (token cs ∷ ss) i a b u =
-      ends-pick (among cs (v .class e i)) (readWithin g v f e n ss (suc i)) i (λ (t : among cs (v .class e i) ≡ true).
+      ends-pick (among cs (v .class e i)) (readWithin g v f e n ss (suc i)) i tt (λ (t : among cs (v .class e i) ≡ true).
       let inside : ¬ (count ≤ i) = λ (z : count ≤ i).
       not-end cs (v .class e i) (and-left (agrees false (among cs 0)) (noEnd ss) a) t (past e i z) in
       let rest = bounded-rest h w (token cs) ss b in
@@ -187,11 +187,11 @@ module _ (g : List Production) (v : View) (h : Hints) (w count : ℕ) (good : ev
       let less = left-free count w i (suc i) (omega arith) inside in
       unspent f e n ss (suc i) (and-right (agrees false (among cs 0)) (noEnd ss) a) rest (omega arith))
   unspent (suc f) e n (condition c q ∷ ss) i a b u =
-      ends-pick (met v e i c q) (readWithin g v f e n ss i) i (λ (t : met v e i c q ≡ true).
+      ends-pick (met v e i c q) (readWithin g v f e n ss i) i tt (λ (t : met v e i c q ≡ true).
       unspent f e n ss i a (bounded-rest h w (condition c q) ss b) (omega arith))
   unspent (suc f) e n (part x ∷ ss) i a b u =
       let rest = bounded-rest h w (part x) ss b in
-      ends-enter (choice g v (v .inside x i e) x i) n i _ (λ (p : Production) (below : ℕ) (c : choice g v (v .inside x i e) x i ≡ one p)
+      ends-enter (choice g v (v .inside x i e) x i) n i _ tt (λ p c l. tt) (λ (p : Production) (below : ℕ) (c : choice g v (v .inside x i e) x i ≡ one p)
       (fit : n ≡ levels (p .makes) + below).
       let l = chosen-falls g v h w good (v .inside x i e) x i p c in
       let light = l .light in

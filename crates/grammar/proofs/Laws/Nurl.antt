@@ -140,19 +140,19 @@ unfolding and or among breadth productions17 needs bounded hints17 weightOf
 start17 = refl
 
 -- at most two rows for each token
-few17 : every (fewRows hints17) productions17 ≡ true
+fewRows17 : every (fewRows hints17) productions17 ≡ true
 unfolding and levels productions17 every fewerOf moreOf fewRows hints17
-few17 = refl
+fewRows17 = refl
 
 -- the kinds of rows are from 1 to 46
-kinds17 : every (knownKind hints17 (hints17 .lastKind)) productions17 ≡ true
+knownKinds17 : every (knownKind hints17 (hints17 .lastKind)) productions17 ≡ true
 unfolding and or between among agrees productions17 implies every voiced kindWithin knownKind hints17
-kinds17 = refl
+knownKinds17 = refl
 
 -- the top row is the program's
-top17 : every (tops program (hints17 .topKind)) productions17 ≡ true
+tops17 : every (tops program (hints17 .topKind)) productions17 ≡ true
 unfolding and productions17 implies every makesRow tops hints17
-top17 = refl
+tops17 = refl
 
 -- a row but the program's calls for a token
 early17 : every (beforeEnd productions17 program) productions17 ≡ true
@@ -172,10 +172,10 @@ passes17 = record {
   ended = refl;
   falling = falls17;
   start = start17;
-  few = few17;
+  few = fewRows17;
   once = omega arith;
-  kinds = kinds17;
-  top = top17;
+  kinds = knownKinds17;
+  top = tops17;
   early = early17;
   apart = apart17;
 }

@@ -1,22 +1,22 @@
 -- Where a reading is refused, for a table that passes the tests: 6 is at a token or at the end of the tokens, 7 is at a token.
 -- Assumes nothing.
-use Prim.Native.Nat.{ℕ, zero, suc, _≤_, _<_}
+use Prim.Native.Nat.{ℕ, zero, suc, _+_, _≤_, _<_}
 use mathlib.Core.Path.{_≡_, refl, subst}
 use mathlib.Core.Bool.{Bool, true, false}
 use mathlib.Core.List.{List, [], _∷_}
 use native.Mathlib.Omega.{arith}
 use lib.Dec.{eqb, ltb}
 use borrow.Author.Tests.{lt-ltb}
-use Rattle.lexer.specs.Tests.{or, pick, among}
+use Rattle.lexer.specs.Tests.{or, among}
 use Rattle.lexer.proofs.Laws.Tests.{and-left, and-right, or-else}
 use Rattle.grammar.specs.Grammars.{endOfTokens, next, Symbol, token, part, condition, when, Makes, row, rowOf, says, noRow}
 use Rattle.grammar.specs.Grammars.{Production, Names, View, agrees, met}
 use Rattle.grammar.specs.Rows.{Row, levels}
 use Rattle.grammar.specs.First.{canBegin, canSkip}
-use Rattle.grammar.specs.Reading.{Outcome, ok, stuck, deep, spent, Choice, none, one, choice, onward, descend, enter, joined}
-use Rattle.grammar.specs.Reading.{readWithin, breadth, whole, reading}
+use Rattle.grammar.specs.Reading.{Outcome, stuck, deep, one, choice, joined, readWithin, breadth, whole, reading}
 use Rattle.grammar.proofs.Laws.Checks.{Hints, implies, noEnd, falls, beforeEnd, without, Passes}
 use Rattle.grammar.proofs.Laws.Tests.{implies-true, every-has}
+use Rattle.grammar.proofs.Laws.Outcomes.{Ends, upTo, out, ends-stuck, ends-deep, ends-pick, ends-onward, ends-enter}
 use Rattle.grammar.proofs.Laws.Choices.{chosen, chosen-passes}
 use Rattle.grammar.proofs.Laws.Fuel.{falls-of, not-end}
 use Rattle.grammar.proofs.Laws.Readings.{Counted}
@@ -34,46 +34,9 @@ one-level (says kind) = omega arith
 one-level noRow = omega arith
 
 -- where an outcome stands in a list of so many tokens, of a reading that has n levels
-data Stands (count n : ℕ) : Outcome → Type 0 where
-  at-ok : {j said : ℕ} {rows : List Row} → j ≤ count → Stands count n (ok j rows said)
-  at-stuck : {i : ℕ} → i ≤ count → Stands count n (stuck i)
-  at-deep : {i : ℕ} → (1 ≤ n → i < count) → Stands count n (deep i)
-  at-spent : Stands count n spent
-
-module _ {count n : ℕ} where
-  stands-stuck : {i : ℕ} → Stands count n (stuck i) → i ≤ count
-  stands-stuck (at-stuck l) = l
-
-  stands-deep : {i : ℕ} → Stands count n (deep i) → 1 ≤ n → i < count
-  stands-deep (at-deep l) = l
-
-  -- and step by step, as a reading goes on
-  stands-pick : (t : Bool) (o : Outcome) (i : ℕ) → i ≤ count → (t ≡ true → Stands count n o) → Stands count n (pick t o (stuck i))
-  stands-pick true o i l f = f refl
-  stands-pick false o i l f = at-stuck l
-
-  stands-onward : {o : Outcome} (rest : ℕ → List Row → ℕ → Outcome) → Stands count n o
-      → ((j : ℕ) (rows : List Row) (said : ℕ) → j ≤ count → Stands count n (rest j rows said)) → Stands count n (onward o rest)
-  unfolding onward
-  stands-onward rest (at-ok {j = j} {said = said} {rows = rows} l) f = f j rows said l
-  stands-onward rest (at-stuck l) f = at-stuck l
-  stands-onward rest (at-deep l) f = at-deep l
-  stands-onward rest at-spent f = at-spent
-
-  stands-descend : (l left i : ℕ) (below : ℕ → Outcome) → (left < l → 1 ≤ n → i < count)
-      → ((m : ℕ) → Stands count n (below m)) → Stands count n (descend l left i below)
-  unfolding descend
-  stands-descend zero left i below d f = f left
-  stands-descend (suc l) zero i below d f = at-deep (d (omega arith))
-  stands-descend (suc l) (suc left) i below d f = stands-descend l left i below (λ (h : left < l). d (omega arith)) f
-
-  stands-enter : (c : Choice) (left i : ℕ) (within : Production → ℕ → Outcome) → i ≤ count
-      → ((p : Production) → c ≡ one p → left < levels (p .makes) → 1 ≤ n → i < count)
-      → ((p : Production) (below : ℕ) → c ≡ one p → Stands count n (within p below)) → Stands count n (enter c left i within)
-  unfolding enter
-  stands-enter none left i within l d f = at-stuck l
-  stands-enter (one p) left i within l d f =
-      stands-descend (levels (p .makes)) left i (within p) (d p refl) (λ (below : ℕ). f p below refl)
+abbrev Stands : ℕ → ℕ → Outcome → Type 0
+Stands count n =
+    Ends (λ (j : ℕ) (rows : List Row) (said : ℕ). j ≤ count) (λ (i : ℕ). i ≤ count) (λ (i : ℕ). 1 ≤ n → i < count) Unit
 
 -- For a table g whose start is x and which passes the tests, and for the tokens of a view v; n are the levels of the whole reading.
 module _ (g : List Production) (h : Hints) (bound x : ℕ) (tests : Passes g h bound x) (v : View) (count : ℕ) (tokens : Counted v count)
@@ -104,27 +67,27 @@ module _ (g : List Production) (h : Hints) (bound x : ℕ) (tests : Passes g h b
       → Stands count n (readWithin g v (suc f) e left (part y ∷ ss) i)
   unfolding readWithin joined
   part-stands f all e left y ss i a b l d =
-      stands-enter (choice g v (v .inside y i e) y i) left i _ l d (λ (p : Production) (below : ℕ)
-      (c : choice g v (v .inside y i e) y i ≡ one p).
+      ends-enter (choice g v (v .inside y i e) y i) left i _ l d (λ (p : Production) (below : ℕ) (c : choice g v (v .inside y i e) y i ≡ one p)
+      (fits : left ≡ levels (p .makes) + below).
       let has = chosen g v (v .inside y i e) y i p c .0 in
       let w = suc (breadth g) in
       let no-end = falls-of h w p (every-has (falls h w) g p (tests .falling) has) .no-end in
       let apart = every-has (λ (q : Production). without x (q .right)) g p (tests .apart) has in
-      stands-onward _ (all (v .inside y i e) below (p .right) i no-end apart l) (λ (j : ℕ) (inner : List Row) (said : ℕ) (m : j ≤ count).
-      stands-onward (joined (p .makes) i j inner said) (all e left ss j a b m)
-      (λ (k : ℕ) (rest : List Row) (later : ℕ) (o : k ≤ count). at-ok o)))
+      ends-onward _ (all (v .inside y i e) below (p .right) i no-end apart l) (λ (j : ℕ) (inner : List Row) (said : ℕ) (m : j ≤ count).
+      ends-onward (joined (p .makes) i j inner said) (all e left ss j a b m)
+      (λ (k : ℕ) (rest : List Row) (later : ℕ) (o : k ≤ count). upTo o)))
 
   within-stands : (f : ℕ) → AllStand f
   unfolding readWithin noEnd without
-  within-stands zero e left ss i a b l = at-spent
-  within-stands (suc f) e left [] i a b l = at-ok l
+  within-stands zero e left ss i a b l = out tt
+  within-stands (suc f) e left [] i a b l = upTo l
   within-stands (suc f) e left (token cs ∷ ss) i a b l =
-      stands-pick (among cs (v .class e i)) (readWithin g v f e left ss (suc i)) i l (λ (t : among cs (v .class e i) ≡ true).
+      ends-pick (among cs (v .class e i)) (readWithin g v f e left ss (suc i)) i l (λ (t : among cs (v .class e i) ≡ true).
       let inside : ¬ (count ≤ i) = λ (z : count ≤ i).
       not-end cs (v .class e i) (and-left (agrees false (among cs 0)) (noEnd ss) a) t (tokens .past e i z) in
       within-stands f e left ss (suc i) (and-right (agrees false (among cs 0)) (noEnd ss) a) b (omega arith))
   within-stands (suc f) e left (condition c q ∷ ss) i a b l =
-      stands-pick (met v e i c q) (readWithin g v f e left ss i) i l (λ (t : met v e i c q ≡ true). within-stands f e left ss i a b l)
+      ends-pick (met v e i c q) (readWithin g v f e left ss i) i l (λ (t : met v e i c q ≡ true). within-stands f e left ss i a b l)
   within-stands (suc f) e left (part y ∷ ss) i a b l =
       let other = and-left (agrees false (eqb y x)) (without x ss) b in
       part-stands f (within-stands f) e left y ss i a (and-right (agrees false (eqb y x)) (without x ss) b) l
@@ -134,7 +97,7 @@ module _ (g : List Production) (h : Hints) (bound x : ℕ) (tests : Passes g h b
   -- the start, which takes at most one level, and then the end of the tokens
   whole-stands : (f : ℕ) (e : Names) → Stands count n (readWithin g v f e n (whole x) 0)
   unfolding readWithin noEnd without
-  whole-stands zero e = at-spent
+  whole-stands zero e = out tt
   whole-stands (suc f) e =
       part-stands f (within-stands f) e n x (when (next (endOfTokens ∷ [])) ∷ []) 0 refl refl (omega arith)
       (λ (p : Production) (c : choice g v (v .inside x 0 e) x 0 ≡ one p) (m : n < levels (p .makes)) (some : 1 ≤ n).
@@ -146,9 +109,9 @@ module _ (g : List Production) (h : Hints) (bound x : ℕ) (tests : Passes g h b
   -- "6: token index, or the token count at the end"
   pub stuck-at : (n i : ℕ) → reading g v count e n x ≡ stuck i → i ≤ count
   unfolding reading
-  stuck-at n i r = stands-stuck (subst (Stands count n) r (whole-stands g h bound x tests v count tokens n _ e))
+  stuck-at n i r = ends-stuck (subst (Stands count n) r (whole-stands g h bound x tests v count tokens n _ e))
 
   -- "7: token index", where there is a level at all
   pub deep-at : (n i : ℕ) → 1 ≤ n → reading g v count e n x ≡ deep i → i < count
   unfolding reading
-  deep-at n i some r = stands-deep (subst (Stands count n) r (whole-stands g h bound x tests v count tokens n _ e)) some
+  deep-at n i some r = ends-deep (subst (Stands count n) r (whole-stands g h bound x tests v count tokens n _ e)) some

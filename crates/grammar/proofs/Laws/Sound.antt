@@ -10,21 +10,21 @@ use Rattle.grammar.specs.Rows.{Row, levels}
 use Rattle.grammar.specs.Derivations.{Derives, end, taken, held, entered}
 use Rattle.grammar.specs.Reading.{ok, one, choice, joined, readWithin}
 use Rattle.grammar.proofs.Laws.Choices.{chosen}
-use Rattle.grammar.proofs.Laws.Outcomes.{Ends, upTo, out, ends-ok, ends-over, ends-pick, ends-onward, ends-enter}
+use Rattle.grammar.proofs.Laws.Outcomes.{Ends, Anywhere, upTo, out, ends-ok, ends-over, ends-pick, ends-onward, ends-enter}
 
 module _ (g : List Production) (v : View) where
-  derives : (fuel : ℕ) (e : Names) (n : ℕ) (ss : List Symbol) (i : ℕ) → Ends (Derives g v e n ss i) Unit (readWithin g v fuel e n ss i)
+  derives : (fuel : ℕ) (e : Names) (n : ℕ) (ss : List Symbol) (i : ℕ) → Ends (Derives g v e n ss i) Anywhere Anywhere Unit (readWithin g v fuel e n ss i)
   unfolding readWithin joined
   derives zero e n ss i = out tt
   derives (suc fuel) e n [] i = upTo end
   derives (suc fuel) e n (token cs ∷ ss) i =
-      ends-pick (among cs (v .class e i)) (readWithin g v fuel e n ss (suc i)) i (λ (t : among cs (v .class e i) ≡ true).
+      ends-pick (among cs (v .class e i)) (readWithin g v fuel e n ss (suc i)) i tt (λ (t : among cs (v .class e i) ≡ true).
       ends-over (derives fuel e n ss (suc i)) (λ (j : ℕ) (rows : List Row) (said : ℕ). taken t))
   derives (suc fuel) e n (condition b q ∷ ss) i =
-      ends-pick (met v e i b q) (readWithin g v fuel e n ss i) i (λ (t : met v e i b q ≡ true).
+      ends-pick (met v e i b q) (readWithin g v fuel e n ss i) i tt (λ (t : met v e i b q ≡ true).
       ends-over (derives fuel e n ss i) (λ (j : ℕ) (rows : List Row) (said : ℕ). held t))
   derives (suc fuel) e n (part x ∷ ss) i =
-      ends-enter (choice g v (v .inside x i e) x i) n i _ (λ (p : Production) (left : ℕ) (c : choice g v (v .inside x i e) x i ≡ one p)
+      ends-enter (choice g v (v .inside x i e) x i) n i _ tt (λ p c l. tt) (λ (p : Production) (left : ℕ) (c : choice g v (v .inside x i e) x i ≡ one p)
       (fits : n ≡ levels (p .makes) + left).
       let (has, of) = chosen g v (v .inside x i e) x i p c in
       ends-onward _ (derives fuel (v .inside x i e) left (p .right) i)
@@ -35,4 +35,4 @@ module _ (g : List Production) (v : View) where
 
   pub sound : (fuel : ℕ) (e : Names) (n : ℕ) (ss : List Symbol) (i j : ℕ) (rows : List Row) (said : ℕ)
       → readWithin g v fuel e n ss i ≡ ok j rows said → Derives g v e n ss i j rows said
-  sound fuel e n ss i j rows said r = ends-ok (subst (Ends (Derives g v e n ss i) Unit) r (derives fuel e n ss i))
+  sound fuel e n ss i j rows said r = ends-ok (subst (Ends (Derives g v e n ss i) Anywhere Anywhere Unit) r (derives fuel e n ss i))
