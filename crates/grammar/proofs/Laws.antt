@@ -1,6 +1,6 @@
 -- Laws of grammars and of their readings.
 pub mod Checks
-pub mod Tests
+pub mod CheckLaws
 pub mod Choices
 pub mod Follow
 pub mod Complete
@@ -14,7 +14,7 @@ pub mod Forests
 pub mod RowKinds
 pub mod Readings
 pub mod Views
-pub mod Nurl
+pub mod Table17
 pub mod Structs
 pub mod Sources
 pub mod Answers

@@ -94,7 +94,7 @@ module _ (l : Language) (source names : List ℕ) where
           → r ≡ record { answer = Refused number place; tokens = tokensAfter; rows = rowsAfter }
       -- Demand 2: "The token table is the one that the lexical rules of grammar 1.7 give .., every byte accounted for once. On
       -- acceptance the rows are, in order, a derivation of those tokens by the grammar." The token table after 6, 7 and 8 is in
-      -- `Refusal`.
+      -- `Refusal`. That every byte is accounted for is said of the lexical rules, and so of any reader that keeps to them.
       pub every-byte : (ts : List Token) → Readable ts → flatten (pieces source (lexemes (l .lexical) source)) ≡ source
       pub accepted : (tokenCount rowCount : ℕ) → r .answer ≡ Accepted tokenCount rowCount
           → Acceptance tokenCount rowCount (r .tokens) (r .rows)

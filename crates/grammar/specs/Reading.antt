@@ -1,6 +1,6 @@
 -- The leftmost reading: from the first token on, always the production that the next token can begin and whose conditions at the
--- front are met, else the one that may derive no token. If several would do, it is the first of the table; that there are none
--- such is tested (`exclusive` in proofs/).
+-- front are met, else the one that may derive no token. If several would do, it is the first of the table; that no two
+-- would where a derivation goes on is tested (`exclusive` in proofs/).
 use Prim.Native.Nat.{ℕ, zero, suc, _+_, _*_}
 use mathlib.Core.Bool.{Bool, true}
 use mathlib.Core.List.{List, [], _∷_, _++_}

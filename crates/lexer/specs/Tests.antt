@@ -1,4 +1,4 @@
--- Tests and choices by a test, which the definitions of this crate are written with.
+-- Tests and choices by a test, which the definitions here and in the crates above are written with.
 use mathlib.Core.Bool.{Bool, true, false}
 use mathlib.Core.List.{List, [], _∷_}
 use Prim.Native.Nat.{ℕ}

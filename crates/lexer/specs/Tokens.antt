@@ -34,7 +34,7 @@ lexemesWithin e (suc m) s =
 unfoldable pub lexemes : Edition → List ℕ → List Lexeme
 lexemes e s = lexemesWithin e (length s) s
 
--- some bytes cut by the sizes of lexemes, in order: each byte belongs to one of them
+-- some bytes cut by the sizes of lexemes, in order
 unfoldable pub pieces : List ℕ → List Lexeme → List (List ℕ)
 pieces s [] = []
 pieces s (l ∷ ls) = take (size l) s ∷ pieces (drop (size l) s) ls

@@ -1,14 +1,14 @@
 -- The answer has demands 1, 2 and 3, and whatever has them is the answer, for any language whose table passes the tests.
 -- Assumes nothing.
-use Prim.Native.Nat.{ℕ, _≤_}
+use Prim.Native.Nat.{ℕ, _<_, _≤_}
 use mathlib.Core.Path.{_≡_, refl, _∙_, subst}
 use mathlib.Core.Bool.{Bool, true, false}
 use mathlib.Core.List.{List}
 use mathlib.Core.Logic.{_⊎_, inl, inr}
 use native.Mathlib.Omega.{arith}
-use lib.Dec.{leb, ltb}
+use lib.Dec.{eqb, leb, ltb}
 use lib.ListN.{length}
-use borrow.Author.Tests.{ltb-true, ltb-false, leb-true, leb-false, lt-ltb, le-ltb, le-leb, lt-leb}
+use borrow.Author.Tests.{eqb-false, ltb-true, ltb-false, leb-true, leb-false, lt-ltb, le-ltb, le-leb, lt-leb}
 use Rattle.lexer.specs.Tests.{pick}
 use Rattle.lexer.specs.Tokens.{Token, Scan, clean, fault, scan}
 use Rattle.lexer.specs.Table.{sourceLimit, tokenRoom, filled}
@@ -40,7 +40,12 @@ module _ (l : Language) (source names : List ℕ) (limit : ℕ) (tokens rows : L
     found-accept : {ts : List Token} {rs : List Row} → Readable l source names ts → length ts ≤ tokenRoom tokens
         → length rs ≤ treeRoom rows → DerivationOf l source names ts limit rs → Found (accept ts rs)
 
-  -- the other way: where the tokens are readable, the verdict is that of the reading
+  -- the other way: a source that is too long is refused 1, whatever else it is; where the tokens are readable, the verdict is that
+  -- of the reading
+  verdict-long : sourceLimit < length source → verdict l limit source names (tokenRoom tokens) (treeRoom rows) ≡ early 1 0
+  unfolding verdict
+  verdict-long long = rw (lt-ltb sourceLimit (length source) long)
+
   verdict-within : length source ≤ sourceLimit → verdict l limit source names (tokenRoom tokens) (treeRoom rows)
       ≡ checkedNames (checked (l .lexical) names)
       (scannedTokens l limit source names (tokenRoom tokens) (treeRoom rows) (scan (l .lexical) source))
@@ -63,6 +68,34 @@ module _ (l : Language) (source names : List ℕ) (limit : ℕ) (tokens rows : L
   -- the tokens of a source are one list
   readable-same : (ts us : List Token) → Readable l source names ts → Readable l source names us → ts ≡ us
   readable-same ts us r k = let one = r .scans in let two = k .scans in cc
+
+  -- what 6 and 7 say of the reading
+  record Stops (number place : ℕ) (ts : List Token) : Type 0 where
+    six : number ≡ 6 → readTokens l limit source names ts ≡ stuck place
+    seven : number ≡ 7 → readTokens l limit source names ts ≡ deep place
+
+  stops-not : (number place : ℕ) (ts : List Token) → eqb number 6 ≡ false → eqb number 7 ≡ false → Stops number place ts
+  stops-not number place ts a b = record {
+    six = λ (h : number ≡ 6). absurd (eqb-false number 6 a h);
+    seven = λ (h : number ≡ 7). absurd (eqb-false number 7 b h);
+  }
+
+  refusal-stops : (number place : ℕ) (ta ra : List ℕ) → Refusal l source names limit tokens rows number place ta ra
+      → (ts : List Token) → Readable l source names ts → Stops number place ts
+  refusal-stops number place ta ra (too-long long) ts k = stops-not 1 0 ts refl refl
+  refusal-stops number place ta ra (bad-names within h) ts k = stops-not 2 place ts refl refl
+  refusal-stops number place ta ra (bad-byte a h) ts k = stops-not 3 place ts refl refl
+  refusal-stops number place ta ra (open-string a h) ts k = stops-not 4 place ts refl refl
+  refusal-stops number place ta ra (few-token-rows r few) ts k = stops-not 5 place ts refl refl
+  refusal-stops number place ta ra (no-program {ts = us} r room h) ts k = record {
+    six = λ e. subst (λ (vs : List Token). readTokens l limit source names vs ≡ stuck place) (readable-same us ts r k) h;
+    seven = λ e. absurd (eqb-false 6 7 refl e);
+  }
+  refusal-stops number place ta ra (too-deep {ts = us} r room h) ts k = record {
+    six = λ e. absurd (eqb-false 7 6 refl e);
+    seven = λ e. subst (λ (vs : List Token). readTokens l limit source names vs ≡ deep place) (readable-same us ts r k) h;
+  }
+  refusal-stops number place ta ra (few-tree-rows r room d few) ts k = stops-not 8 place ts refl refl
 
   module _ (fit : Fit l) where
     -- No. 6 to 8
@@ -110,14 +143,15 @@ module _ (l : Language) (source names : List ℕ) (limit : ℕ) (tokens rows : L
         rw two (found-early (bad-names within (rw two at h)))
 
     -- No. 1
-    found-by : (t : Bool) → ltb sourceLimit (length source) ≡ t
-        → Found (pick t (early 1 0) (checkedNames (checked (l .lexical) names)
-        (scannedTokens l limit source names (tokenRoom tokens) (treeRoom rows) (scan (l .lexical) source))))
-    found-by true t = found-early (too-long (ltb-true sourceLimit (length source) t))
-    found-by false t = found-names (ltb-false sourceLimit (length source) t) (checked (l .lexical) names) refl
+    found-by : (t : Bool) → ltb sourceLimit (length source) ≡ t → Found (verdict l limit source names (tokenRoom tokens) (treeRoom rows))
+    found-by true t =
+        let long = ltb-true sourceLimit (length source) t in
+        rw (verdict-long long) (found-early (too-long long))
+    found-by false t =
+        let within = ltb-false sourceLimit (length source) t in
+        rw (verdict-within within) (found-names within (checked (l .lexical) names) refl)
 
     found : Found (verdict l limit source names (tokenRoom tokens) (treeRoom rows))
-    unfolding verdict
     found = found-by (ltb sourceLimit (length source)) refl
 
     verdict-derived : (ts : List Token) (rs : List Row) → Readable l source names ts → length ts ≤ tokenRoom tokens
@@ -135,8 +169,8 @@ module _ (l : Language) (source names : List ℕ) (limit : ℕ) (tokens rows : L
     refusal-result : (number place : ℕ) (tokensAfter rowsAfter : List ℕ)
         → Refusal l source names limit tokens rows number place tokensAfter rowsAfter
         → answered l limit source names tokens rows ≡ record { answer = Refused number place; tokens = tokensAfter; rows = rowsAfter }
-    unfolding answered result scannedTokens judged checkedNames verdict
-    refusal-result number place ta ra (too-long long) = rw (lt-ltb sourceLimit (length source) long)
+    unfolding answered result scannedTokens judged checkedNames
+    refusal-result number place ta ra (too-long long) = rw (verdict-long long)
     refusal-result number place ta ra (bad-names within h) = rw (verdict-within within, h)
     refusal-result number place ta ra (bad-byte a h) = rw (verdict-good a (fault 3 place) h)
     refusal-result number place ta ra (open-string a h) = rw (verdict-good a (fault 4 place) h)
@@ -153,33 +187,6 @@ module _ (l : Language) (source names : List ℕ) (limit : ℕ) (tokens rows : L
         ≡ record { answer = Accepted (length ts) (length rs); tokens = filled ts tokens; rows = placed rs rows }
     unfolding answered result
     accept-result ts rs r room space d = rw (verdict-derived ts rs r room d, le-leb (length rs) (treeRoom rows) space)
-
-    -- "no program" and "too deep"
-    six-none : (number place : ℕ) (ta ra : List ℕ) → Refusal l source names limit tokens rows number place ta ra → number ≡ 6
-        → (ts : List Token) → Readable l source names ts → (n : ℕ) (rs : List Row) → DerivationOf l source names ts n rs → ⊥
-    six-none number place ta ra (too-long long) six ts k n rs d = absurd (omega arith)
-    six-none number place ta ra (bad-names within h) six ts k n rs d = absurd (omega arith)
-    six-none number place ta ra (bad-byte a h) six ts k n rs d = absurd (omega arith)
-    six-none number place ta ra (open-string a h) six ts k n rs d = absurd (omega arith)
-    six-none number place ta ra (few-token-rows r few) six ts k n rs d = absurd (omega arith)
-    six-none number place ta ra (no-program {ts = us} r room h) six ts k n rs d =
-        read-stuck l fit source names us (r .scans) limit place n rs h
-        (subst (λ (vs : List Token). DerivationOf l source names vs n rs) (readable-same ts us k r) d)
-    six-none number place ta ra (too-deep r room h) six ts k n rs d = absurd (omega arith)
-    six-none number place ta ra (few-tree-rows r room e few) six ts k n rs d = absurd (omega arith)
-
-    seven-none : (number place : ℕ) (ta ra : List ℕ) → Refusal l source names limit tokens rows number place ta ra → number ≡ 7
-        → (ts : List Token) → Readable l source names ts → (rs : List Row) → DerivationOf l source names ts limit rs → ⊥
-    seven-none number place ta ra (too-long long) seven ts k rs d = absurd (omega arith)
-    seven-none number place ta ra (bad-names within h) seven ts k rs d = absurd (omega arith)
-    seven-none number place ta ra (bad-byte a h) seven ts k rs d = absurd (omega arith)
-    seven-none number place ta ra (open-string a h) seven ts k rs d = absurd (omega arith)
-    seven-none number place ta ra (few-token-rows r few) seven ts k rs d = absurd (omega arith)
-    seven-none number place ta ra (no-program r room h) seven ts k rs d = absurd (omega arith)
-    seven-none number place ta ra (too-deep {ts = us} r room h) seven ts k rs d =
-        read-deep l fit source names us (r .scans) limit place rs h
-        (subst (λ (vs : List Token). DerivationOf l source names vs limit rs) (readable-same ts us k r) d)
-    seven-none number place ta ra (few-tree-rows r room e few) seven ts k rs d = absurd (omega arith)
 
     -- what a verdict's result says
     refused-by : (w : Verdict) → Found w → (number place : ℕ) → result w tokens rows .answer ≡ Refused number place
@@ -241,10 +248,12 @@ module _ (l : Language) (source names : List ℕ) (limit : ℕ) (tokens rows : L
           (d : DerivationOf l source names ts limit rs).
           accept-result ts rs k (room .for-tokens) (room .for-rows rs d) d;
       only = λ t n h. only-by t n _ _ (accepted-by (verdict l limit source names (tokenRoom tokens) (treeRoom rows)) found t n h);
-      no-derivation = λ place h.
-          six-none 6 place _ _ (refused-by (verdict l limit source names (tokenRoom tokens) (treeRoom rows)) found 6 place h) refl;
-      none-within = λ place h.
-          seven-none 7 place _ _ (refused-by (verdict l limit source names (tokenRoom tokens) (treeRoom rows)) found 7 place h) refl;
+      no-derivation = λ place h ts k n rs.
+          let refusal = refused-by (verdict l limit source names (tokenRoom tokens) (treeRoom rows)) found 6 place h in
+          read-stuck l fit source names ts (k .scans) limit place n rs (refusal-stops 6 place _ _ refusal ts k .six refl);
+      none-within = λ place h ts k rs.
+          let refusal = refused-by (verdict l limit source names (tokenRoom tokens) (treeRoom rows)) found 7 place h in
+          read-deep l fit source names ts (k .scans) limit place rs (refusal-stops 7 place _ _ refusal ts k .seven refl);
     }
 
     -- what has the demands is the answer

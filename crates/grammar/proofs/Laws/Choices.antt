@@ -14,7 +14,7 @@ use Rattle.grammar.specs.Derivations.{Has, here, there}
 use Rattle.grammar.specs.First.{canBegin, canSkip}
 use Rattle.grammar.specs.Reading.{ready, Choice, none, one, find, orElse, choice}
 use Rattle.grammar.proofs.Laws.Checks.{Hints, implies, every, live, asks, opposed, excludes, exclusive}
-use Rattle.grammar.proofs.Laws.Tests.{and-both, implies-true, every-has}
+use Rattle.grammar.proofs.Laws.CheckLaws.{and-both, implies-true, every-has}
 
 -- the production that is found is one of the table, of the nonterminal that is asked for, and passes the test
 pub record Found (ps : List Production) (x : ℕ) (test : Production → Bool) (p : Production) : Type 0 where

@@ -15,7 +15,7 @@ use Rattle.grammar.specs.First.{allows, skips, starts, empty, first, can
 use Rattle.grammar.specs.Reading.{ready}
 use Rattle.grammar.proofs.Laws.Checks.{Hints, implies, every, may, firstClosed, emptyClosed, flows, followClosed, exclusive}
 use Rattle.grammar.proofs.Laws.Checks.{Closed}
-use Rattle.grammar.proofs.Laws.Tests.{and-both, implies-true, every-has, below-at}
+use Rattle.grammar.proofs.Laws.CheckLaws.{and-both, implies-true, every-has, below-at}
 
 -- what the theorems ask of a view: its classes are below a bound, and the names that a nonterminal adds change neither the class
 -- of its first token nor the class of a token that may follow it

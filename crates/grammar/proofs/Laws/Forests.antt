@@ -12,7 +12,7 @@ use Rattle.grammar.specs.Grammars.{Symbol, part, Makes, row, rowOf, says
 use Rattle.grammar.specs.Rows.{Row, above, made, levels}
 use Rattle.grammar.specs.Derivations.{Derives, end, taken, held, entered}
 use Rattle.grammar.specs.Forests.{Forest, nothing, tree}
-use Rattle.grammar.proofs.Laws.Tests.{every-has}
+use Rattle.grammar.proofs.Laws.CheckLaws.{every-has}
 use Rattle.grammar.proofs.Laws.Checks.{Hints, every, fewerOf, moreOf, fewRows}
 use Rattle.grammar.proofs.Laws.Takes.{derives-forward}
 
@@ -20,10 +20,6 @@ use Rattle.grammar.proofs.Laws.Takes.{derives-forward}
 pub forest-before : {n i j k : ℕ} {rows : List Row} → i ≤ j → Forest n j k rows → Forest n i k rows
 forest-before {i = i} {k = k} h (nothing l) = nothing {i = i} {j = k} (omega arith)
 forest-before {i = i} h (tree {r = r} l c children rest) = tree {i = i} {r = r} (omega arith) c children rest
-
-pub forest-after : {n i j k : ℕ} {rows : List Row} → j ≤ k → Forest n i j rows → Forest n i k rows
-forest-after {i = i} {k = k} h (nothing l) = nothing {i = i} {j = k} (omega arith)
-forest-after h (tree {r = r} l c children rest) = tree {r = r} l c children (forest-after h rest)
 
 pub forest-append : {n i j k : ℕ} {rows more : List Row} → Forest n i j rows → Forest n j k more → Forest n i k (rows ++ more)
 forest-append (nothing l) after = forest-before l after

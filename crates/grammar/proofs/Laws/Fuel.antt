@@ -11,11 +11,11 @@ use Rattle.lexer.specs.Tests.{and, pick, among}
 use Rattle.lexer.proofs.Laws.Tests.{and-left, and-right}
 use Rattle.grammar.specs.Grammars.{Condition, Symbol, token, part, condition, Production, Names, View, agrees, met}
 use Rattle.grammar.specs.Rows.{Row, levels}
-use Rattle.grammar.specs.Reading.{Outcome, ok, spent, one, choice, joined, readWithin, breadth, whole, reading}
-use Rattle.grammar.proofs.Laws.Tests.{and-else, implies-false, every-has}
+use Rattle.grammar.specs.Reading.{Outcome, spent, one, choice, joined, readWithin, breadth, whole, reading}
+use Rattle.grammar.proofs.Laws.CheckLaws.{and-else, implies-false, every-has}
 use Rattle.grammar.proofs.Laws.Choices.{chosen}
-use Rattle.grammar.proofs.Laws.Outcomes.{Ends, Anywhere, upTo, out, ends-ok, ends-spent, ends-over, ends-both, ends-pick}
-use Rattle.grammar.proofs.Laws.Outcomes.{ends-onward, ends-enter}
+use Rattle.grammar.proofs.Laws.Outcomes.{Ends, Anywhere, upTo, out, ends-spent, ends-over, ends-both, ends-pick, ends-onward}
+use Rattle.grammar.proofs.Laws.Outcomes.{ends-enter}
 use Rattle.grammar.proofs.Laws.Checks.{Hints, implies, every, noEnd, vanishes, needs, bounded, falls}
 
 -- what holds of the token that is read up to, or where the fuel is spent
@@ -127,11 +127,6 @@ module _ (g : List Production) (v : View) (h : Hints) (w : ℕ) (good : every (f
       ends-onward (joined (p .makes) i j inner said) (advances-within f e n ss j)
       (λ (k : ℕ) (rest : List Row) (later : ℕ) (b : Advances h v ss j k).
       upTo (advances-part h v x w p ss i j k (chosen-falls (v .inside x i e) x i p c) a b))))
-
-  -- what is read advances
-  pub advances : (f : ℕ) (e : Names) (n : ℕ) (ss : List Symbol) (i j : ℕ) (rows : List Row) (said : ℕ)
-      → readWithin g v f e n ss i ≡ ok j rows said → Advances h v ss i j
-  advances f e n ss i j rows said r = ends-ok (subst (UpTo (Advances h v ss i) Unit) r (advances-within f e n ss i))
 
 -- symbols need some fuel, and at most the bound
 needs-some : (h : Hints) (ss : List Symbol) → 1 ≤ needs h ss

@@ -17,7 +17,7 @@ use Rattle.grammar.specs.Demands.{MeetsDemands}
 use Rattle.grammar.proofs.Laws.Grows.{Grows, byLevels}
 use Rattle.grammar.proofs.Laws.Takes.{from, allTaken}
 use Rattle.grammar.proofs.Laws.RowKinds.{KindsTo, Top}
-use Rattle.grammar.proofs.Laws.Nurl.{hints17, passes17, steady17}
+use Rattle.grammar.proofs.Laws.Table17.{hints17, passes17, steady17}
 use Rattle.grammar.proofs.Laws.Sources.{Fit, ReadAs, read-sound, read-complete, read-same, read-grows, read-stuck, read-deep}
 use Rattle.grammar.proofs.Laws.Sources.{read-unspent, read-takes, read-few, read-forest, read-kinds, read-top, read-stuck-at}
 use Rattle.grammar.proofs.Laws.Sources.{read-deep-at}

@@ -15,7 +15,7 @@ use Rattle.grammar.specs.Rows.{Row, levels}
 use Rattle.grammar.specs.First.{canBegin, canSkip}
 use Rattle.grammar.specs.Reading.{Outcome, stuck, deep, one, choice, joined, readWithin, breadth, whole, reading}
 use Rattle.grammar.proofs.Laws.Checks.{Hints, implies, noEnd, falls, beforeEnd, without, Passes}
-use Rattle.grammar.proofs.Laws.Tests.{implies-true, every-has}
+use Rattle.grammar.proofs.Laws.CheckLaws.{implies-true, every-has}
 use Rattle.grammar.proofs.Laws.Outcomes.{Ends, upTo, out, ends-stuck, ends-deep, ends-pick, ends-onward, ends-enter}
 use Rattle.grammar.proofs.Laws.Choices.{chosen, chosen-passes}
 use Rattle.grammar.proofs.Laws.Fuel.{falls-of, not-end}

@@ -15,7 +15,7 @@ use Rattle.grammar.specs.Derivations.{Derives, end, taken, held, entered
 use Rattle.grammar.specs.First.{allows, skips, starts}
 use Rattle.grammar.specs.Reading.{Outcome, ok, stuck, deep, spent, breadth, whole, readWithin, reading}
 use Rattle.grammar.proofs.Laws.Checks.{Hints, noEnd, implies, every, may, flows, falls, Passes}
-use Rattle.grammar.proofs.Laws.Tests.{and-both, implies-by, every-has}
+use Rattle.grammar.proofs.Laws.CheckLaws.{and-both, implies-by, every-has}
 use Rattle.grammar.proofs.Laws.Follow.{Steady, Flows}
 use Rattle.grammar.proofs.Laws.Complete.{complete, agrees-ok}
 use Rattle.grammar.proofs.Laws.Sound.{sound}

@@ -14,7 +14,7 @@ use Rattle.grammar.specs.Rows.{Row, above, made, passed, firstSaid, leve
 use Rattle.grammar.specs.Derivations.{Derives, end, taken, held, entered, Derivation, derivation}
 use Rattle.grammar.specs.Forests.{Forest}
 use Rattle.grammar.proofs.Laws.Checks.{Hints, every, voiced, kindWithin, knownKind, makesRow, tops}
-use Rattle.grammar.proofs.Laws.Tests.{implies-true, every-has}
+use Rattle.grammar.proofs.Laws.CheckLaws.{implies-true, every-has}
 use Rattle.grammar.proofs.Laws.Forests.{forest}
 
 -- each row has a kind from 1 to the last

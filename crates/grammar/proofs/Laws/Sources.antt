@@ -105,8 +105,8 @@ module _ (l : Language) (fit : Fit l) (source names : List ℕ) (ts : List Token
   read-unspent =
       reading-unspent (l .productions) (fit .hints) classes (l .start) (fit .tests) (viewOf l source ts) (length ts) steady counted _
 
-  -- 6. A derivation takes each token once and in order, has at most two rows for each token and one more, and its rows' counts and
-  -- covers are those of their children.
+  -- 6. A derivation takes each token once and in order and has at most two rows for each token and one more. Its rows are trees: each
+  -- row's count is that of its subtree, and its children stand in order inside its cover.
   pub read-few : (n : ℕ) (rs : List Row) → DerivationOf l source names ts n rs → length rs ≤ 2 * length ts + 1
   read-few =
       derivation-few (l .productions) (fit .hints) classes (l .start) (fit .tests) (viewOf l source ts) (length ts) steady counted _

@@ -1,4 +1,5 @@
--- The entries of a name list from a place on: the first of them, and the answer by it. Assumes nothing.
+-- The entries of a name list from a place on: the first of them, and the answer by it; and that a refusal is number 2. Assumes
+-- nothing.
 use Prim.Native.Nat.{ℕ, suc, _+_, _<_, _≤_}
 use mathlib.Core.Path.{_≡_, refl, sym, _∙_, ap}
 use mathlib.Core.Bool.{Bool, true, false}
