@@ -19,6 +19,7 @@ pub use table::start_at;
 pub use tokens::SOURCE_LIMIT;
 pub use tokens::count_tokens;
 pub use tokens::tokenize;
+pub use words::two_colons;
 
 // A class of bytes that a lexeme can go on over.
 pub enum Class {

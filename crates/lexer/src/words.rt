@@ -36,7 +36,8 @@ fn ident_end(source: &[u8], at: usize) -> usize
     end
 }
 
-fn two_colons(source: &[u8], at: usize) -> bool
+// Whether two colons stand at `at`.
+pub fn two_colons(source: &[u8], at: usize) -> bool
     ensures { λ r. ⌜ r ≡ twoColons (drop at (now (source .entry))) ⌝ }
 {
     if at < source.len() {

@@ -1,2 +1,6 @@
--- Laws of the name list that belong to no one function of the code.
+-- Laws of the name list and of the type names that belong to no one function of the code.
 pub mod Entries
+pub mod Texts
+pub mod Compared
+pub mod Named
+pub mod Declared

@@ -53,7 +53,7 @@ module _ (ts : List Token) (t : Token) (table : List ℕ) where
       ∙ rw (last-row, take-at (tokenRows ts) (drop n table) n (rows-length ts), more-rows, rows-append, append-assoc)
 
 -- as many rows as there is room for
-rows-of-length : (table : List ℕ) → length (rowsOf table) ≡ tokenRoom table
+pub rows-of-length : (table : List ℕ) → length (rowsOf table) ≡ tokenRoom table
 unfolding rowsOf
 rows-of-length [] = refl
 rows-of-length (k ∷ []) = refl

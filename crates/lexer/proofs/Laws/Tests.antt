@@ -4,13 +4,23 @@ use mathlib.Core.Path.{_≡_, refl, _∙_, sym}
 use mathlib.Core.Bool.{Bool, true, false}
 use native.Mathlib.Omega.{arith}
 use lib.Dec.{eqb, leb}
-use borrow.Author.Tests.{eqb-true, ne-eqb, leb-true}
+use borrow.Author.Tests.{eqb-true, eqb-false, eq-eqb, ne-eqb, leb-true}
 use Rattle.lexer.specs.Tests.{and, or, between, pick}
 
 pub and-false : (t : Bool) → and t false ≡ false
 unfolding and
 and-false true = refl
 and-false false = refl
+
+pub and-true : (t : Bool) → and t true ≡ t
+unfolding and
+and-true true = refl
+and-true false = refl
+
+pub or-false : (t : Bool) → or t false ≡ t
+unfolding or
+or-false true = refl
+or-false false = refl
 
 pub and-left : (a b : Bool) → and a b ≡ true → a ≡ true
 unfolding and
@@ -48,6 +58,13 @@ between-range low high n h =
 pub pick-same {ℓ} : {A : Type ℓ} (t : Bool) (a : A) → pick t a a ≡ a
 pick-same true a = refl
 pick-same false a = refl
+
+pub eqb-turn : (a b : ℕ) → eqb a b ≡ eqb b a
+eqb-turn a b = cases (eqb a b) refl
+  where
+    cases : (t : Bool) → eqb a b ≡ t → eqb a b ≡ eqb b a
+    cases true e = e ∙ sym (eq-eqb b a (sym (eqb-true a b e)))
+    cases false e = e ∙ sym (ne-eqb b a (λ (h : b ≡ a). eqb-false a b e (sym h)))
 
 -- two different numbers are not both k
 pub apart : (k x y : ℕ) → (x ≡ y → ⊥) → and (eqb y k) (eqb x k) ≡ false

@@ -38,7 +38,7 @@ split-more-by b s false e below h =
     let r = run-pass isInLine b s (in-line b e) in
     rw (r, e, below (omega arith))
 
-split-more : (s : List ℕ) → run isInLine s < length s → split s ≡ take (run isInLine s) s ∷ split (drop (suc (run isInLine s)) s)
+pub split-more : (s : List ℕ) → run isInLine s < length s → split s ≡ take (run isInLine s) s ∷ split (drop (suc (run isInLine s)) s)
 split-more [] h = absurd (omega arith)
 split-more (b ∷ s) h = split-more-by b s (eqb b 10) refl (split-more s) h
 
@@ -51,7 +51,7 @@ split-last-by b s false e below h =
     let r = run-pass isInLine b s (in-line b e) in
     rw (e, below (omega arith))
 
-split-last : (s : List ℕ) → run isInLine s ≡ length s → split s ≡ s ∷ []
+pub split-last : (s : List ℕ) → run isInLine s ≡ length s → split s ≡ s ∷ []
 unfolding split
 split-last [] h = refl
 split-last (b ∷ s) h = split-last-by b s (eqb b 10) refl (split-last s) h
@@ -66,7 +66,7 @@ split-first-by s false e =
     let all : run isInLine s ≡ length s = omega arith in
     ([], split-last s all ∙ rw all (ap (λ (w : List ℕ). w ∷ []) (sym (take-length s))))
 
-split-first : (s : List ℕ) → (ws : List (List ℕ)) × (split s ≡ take (run isInLine s) s ∷ ws)
+pub split-first : (s : List ℕ) → (ws : List (List ℕ)) × (split s ≡ take (run isInLine s) s ∷ ws)
 split-first s = split-first-by s (ltb (run isInLine s) (length s)) refl
 
 pub entries-some : (list : List ℕ) → 0 < length list → entries list ≡ split list
@@ -79,8 +79,8 @@ unfolding entries
 entries-none [] h = refl
 entries-none (b ∷ s) h = absurd (omega arith)
 
--- the answer from a place on, by the entry there
-module _ (e : Edition) (list : List ℕ) (at : ℕ) where
+-- the entry at a place is the line there
+module _ (list : List ℕ) (at : ℕ) where
   abbrev pub lineLength : ℕ
   lineLength = run isInLine (drop at list)
 
@@ -90,29 +90,35 @@ module _ (e : Edition) (list : List ℕ) (at : ℕ) where
       let l = length-drop at list in
       omega arith
 
-  pub bad-here : isName e (take lineLength (drop at list)) ≡ false
+  abbrev pub entryHere : List ℕ
+  entryHere = take lineLength (drop at list)
+
+-- the answer from a place on, by the entry there
+module _ (e : Edition) (list : List ℕ) (at : ℕ) where
+  pub bad-here : isName e (entryHere list at) ≡ false
       → firstBad e at (split (drop at list)) ≡ Refused 2 at
   unfolding firstBad
   bad-here n = rw (split-first (drop at list) .1, n)
 
-  pub good-last : at ≤ length list → at + lineLength ≡ length list → isName e (take lineLength (drop at list)) ≡ true
+  pub good-last : at ≤ length list → at + lineLength list at ≡ length list → isName e (entryHere list at) ≡ true
       → firstBad e at (split (drop at list)) ≡ Good
   unfolding firstBad
   good-last h end n =
       let d = drop at list in
       let l = length-drop at list in
-      let all : lineLength ≡ length d = omega arith in
+      let all : lineLength list at ≡ length d = omega arith in
       let name : isName e d ≡ true = rw (all, take-length d) at n in
       rw (split-last d all, name)
 
-  pub good-here : at + lineLength < length list → isName e (take lineLength (drop at list)) ≡ true
-      → firstBad e at (split (drop at list)) ≡ firstBad e (at + lineLength + 1) (split (drop (at + lineLength + 1) list))
+  pub good-here : at + lineLength list at < length list → isName e (entryHere list at) ≡ true
+      → firstBad e at (split (drop at list)) ≡ firstBad e (at + lineLength list at + 1) (split (drop (at + lineLength list at + 1) list))
   unfolding firstBad
   good-here h n =
       let d = drop at list in
       let l = length-drop at list in
-      let below : lineLength < length d = omega arith in
-      rw (split-more d below, n, length-take-le lineLength d (omega arith), drop-drop, ← add-one lineLength, ← add-assoc at lineLength 1)
+      let size = lineLength list at in
+      let below : size < length d = omega arith in
+      rw (split-more d below, n, length-take-le size d (omega arith), drop-drop, ← add-one size, ← add-assoc at size 1)
 
 -- a refusal of a list is number 2
 module _ (e : Edition) where

@@ -3,11 +3,11 @@
 use Prim.Native.Nat.{_≤_, _-_}
 use mathlib.Core.Path.{_≡_, _∙_, sym, ap}
 use native.Mathlib.Nat.{add-sub-cancel-left}
-use lib.ListN.{length, take, drop}
+use lib.ListN.{length, drop}
 use borrow.Author.Tests.{lt-ltb, le-ltb, not-true, not-false}
 use Rattle.lexer.specs.Editions.{edition17}
 use Rattle.typenames.specs.NameList.{nameLimit, split, entries, isName, firstBad, checked}
-use Rattle.typenames.proofs.Laws.Entries.{entries-some, entries-none, lineLength, line-inside, bad-here, good-last, good-here}
+use Rattle.typenames.proofs.Laws.Entries.{entries-some, entries-none, line-inside, entryHere, bad-here, good-last, good-here}
 use borrow.Author.Needs.{needs}
 use native.Mathlib.Omega.{arith}
 use Rattle.typenames.proofs.list.check_names.Statement.{statement}
@@ -23,7 +23,7 @@ abbrev μ-loop : tie.MeasureT-loop
 -- the entry that is asked is the line at the place reached
 asked : (c : tie.After-is-name Inv-loop μ-loop) → let list = c .before .before .before .before .before .before .before .args .list .now in
     let at = c .before .before .before .loop .at in
-    c .is-name .result ≡ isName edition17 (take (lineLength edition17 list at) (drop at list))
+    c .is-name .result ≡ isName edition17 (entryHere list at)
 asked c = c .is-name .ensures ∙ rw (c .before .before .run-end .ensures, add-sub-cancel-left (c .before .before .before .loop .at) _)
 
 returns : tie.Need-returns Inv-loop μ-loop
@@ -55,7 +55,7 @@ part-is-name-end : tie.Need-part-is-name-end Inv-loop μ-loop
 part-is-name-end c =
     let args = c .before .before .before .before .before .args in
     let loop = c .before .loop in
-    let e = c .run-end .ensures in let i = line-inside edition17 (args .list .now) (loop .at) (loop .inv .0) in omega arith
+    let e = c .run-end .ensures in let i = line-inside (args .list .now) (loop .at) (loop .inv .0) in omega arith
 
 is-name-requires : tie.Need-is-name-requires Inv-loop μ-loop
 is-name-requires c κs = search needs
@@ -88,14 +88,14 @@ add-at c =
     let run-end = c .before .before .before .before .run-end in
     let args = c .before .before .before .before .before .before .before .before .before .args in
     let loop = c .before .before .before .before .before .loop in
-    let e = run-end .ensures in let i = line-inside edition17 (args .list .now) (loop .at) (loop .inv .0) in let f = c .if4 .left in omega arith
+    let e = run-end .ensures in let i = line-inside (args .list .now) (loop .at) (loop .inv .0) in let f = c .if4 .left in omega arith
 
 loop-less : tie.Need-loop-less Inv-loop μ-loop
 loop-less c =
     let run-end = c .before .before .before .before .run-end in
     let args = c .before .before .before .before .before .before .before .before .before .args in
     let loop = c .before .before .before .before .before .loop in
-    let e = run-end .ensures in let i = line-inside edition17 (args .list .now) (loop .at) (loop .inv .0) in let f = c .if4 .left in omega arith
+    let e = run-end .ensures in let i = line-inside (args .list .now) (loop .at) (loop .inv .0) in let f = c .if4 .left in omega arith
 
 loop-again : tie.Need-loop-again Inv-loop μ-loop
 loop-again c =
@@ -105,7 +105,7 @@ loop-again c =
     let at-is-name = c .before .before in
     let if3 = c .before .if3 in
     let e = run-end .ensures in
-    let i = line-inside edition17 (args .list .now) (loop .at) (loop .inv .0) in
+    let i = line-inside (args .list .now) (loop .at) (loop .inv .0) in
     let f = c .if4 .left in
     let g = good-here edition17 (args .list .now) (loop .at) (omega arith) (sym (asked (at-is-name)) ∙ not-false _ (if3 .left)) in
     (omega arith, loop .inv .1 ∙ rw e g)
