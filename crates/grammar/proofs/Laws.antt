@@ -2,6 +2,7 @@
 pub mod Checks
 pub mod CheckLaws
 pub mod Choices
+pub mod Alternatives
 pub mod Follow
 pub mod Complete
 pub mod Outcomes
@@ -14,7 +15,11 @@ pub mod Forests
 pub mod RowKinds
 pub mod Readings
 pub mod Views
+pub mod Patterns
 pub mod Table17
+pub mod Groups
+pub mod Groups17
+pub mod Alternatives17
 pub mod Structs
 pub mod Sources
 pub mod Answers

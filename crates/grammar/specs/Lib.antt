@@ -10,6 +10,8 @@ pub mod Nonterminals
 pub mod Classes
 pub mod Questions
 pub mod Nurl
+pub mod Alternatives
+pub mod Forms
 pub mod Languages
 pub mod Sources
 pub mod TreeTable

@@ -33,7 +33,7 @@ pub grows-unspent : {o p : Outcome} → Grows byFuel o p → (o ≡ spent → �
 grows-unspent same n = refl
 grows-unspent from-spent n = absurd (n refl)
 
-grows-onward : {w : Way} {o p : Outcome} (rest more : ℕ → List Row → ℕ → Outcome) → Grows w o p
+pub grows-onward : {w : Way} {o p : Outcome} (rest more : ℕ → List Row → ℕ → Outcome) → Grows w o p
     → ((j : ℕ) (rows : List Row) (said : ℕ) → Grows w (rest j rows said) (more j rows said)) → Grows w (onward o rest) (onward p more)
 unfolding onward
 grows-onward rest more (same {o = ok j rows said}) f = f j rows said
@@ -43,12 +43,12 @@ grows-onward rest more (same {o = spent}) f = same
 grows-onward rest more from-spent f = from-spent
 grows-onward rest more from-deep f = from-deep
 
-grows-pick : {w : Way} (t : Bool) (o p : Outcome) (i : ℕ) → Grows w o p → Grows w (pick t o (stuck i)) (pick t p (stuck i))
+pub grows-pick : {w : Way} (t : Bool) (o p : Outcome) (i : ℕ) → Grows w o p → Grows w (pick t o (stuck i)) (pick t p (stuck i))
 grows-pick true o p i f = f
 grows-pick false o p i f = same
 
 -- the same levels
-grows-descend : {w : Way} (l left i : ℕ) (below more : ℕ → Outcome) → ((n : ℕ) → Grows w (below n) (more n))
+pub grows-descend : {w : Way} (l left i : ℕ) (below more : ℕ → Outcome) → ((n : ℕ) → Grows w (below n) (more n))
     → Grows w (descend l left i below) (descend l left i more)
 unfolding descend
 grows-descend zero left i below more f = f left
@@ -64,7 +64,7 @@ grows-deeper (suc l) zero room i below more h f = from-deep
 grows-deeper (suc l) (suc left) zero i below more h f = absurd (omega arith)
 grows-deeper (suc l) (suc left) (suc room) i below more h f = grows-deeper l left room i below more (omega arith) f
 
-grows-enter : {w : Way} (c : Choice) (left room i : ℕ) (within more : Production → ℕ → Outcome)
+pub grows-enter : {w : Way} (c : Choice) (left room i : ℕ) (within more : Production → ℕ → Outcome)
     → ((p : Production) → Grows w (descend (levels (p .makes)) left i (within p)) (descend (levels (p .makes)) room i (more p)))
     → Grows w (enter c left i within) (enter c room i more)
 unfolding enter

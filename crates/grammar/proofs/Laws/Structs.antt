@@ -6,32 +6,24 @@ use mathlib.Core.Bool.{Bool, true, false, false≢true}
 use mathlib.Core.List.{List, [], _∷_}
 use native.Mathlib.Omega.{arith}
 use lib.Dec.{eqb}
-use lib.ListN.{drop, getD}
+use lib.ListN.{getD}
 use borrow.Author.Tests.{eqb-true, eq-eqb, ne-eqb}
 use Rattle.lexer.specs.Tests.{and, or, pick, among}
 use Rattle.lexer.specs.Kinds.{ident, leftBrace, leftBracket, lastKind}
-use Rattle.lexer.proofs.Laws.Tests.{and-left, or-left, or-right}
+use Rattle.lexer.proofs.Laws.Tests.{or-false, and-left, or-left, or-right}
 use Rattle.typenames.specs.TypeNames.{Item, isNamed}
-use Rattle.grammar.specs.Grammars.{endOfTokens, query, Symbol, token, part, condition, when, unless, row, noRow, Production, Names}
+use Rattle.grammar.specs.Grammars.{query, Symbol, token, part, condition, when, unless, row, noRow, Production, Names}
 use Rattle.grammar.specs.Grammars.{View, agrees, asked, met}
 use Rattle.grammar.specs.Rows.{Row}
 use Rattle.grammar.specs.Derivations.{Has, here, there, Derives, end, taken, held, entered}
 use Rattle.grammar.specs.RowKinds.{namedTypeRow}
 use Rattle.grammar.specs.Nonterminals.{mutable, typeParameters, nameList, type}
 use Rattle.grammar.specs.Classes.{typeName, name, typeWord}
-use Rattle.grammar.specs.Questions.{Piece, oneOf, fits, fitsOne, answerTo}
+use Rattle.grammar.specs.Questions.{oneOf, fits, fitsOne, answerTo}
 use Rattle.grammar.specs.Nurl.{one, rule, opensNames, opensStruct, questions17, productions17}
 use Rattle.grammar.specs.Languages.{language17, noItem, classOf, view}
 use Rattle.grammar.proofs.Laws.Views.{Kinds, kinds-none, kinds-more}
-
-or-false : (a : Bool) → or a false ≡ a
-unfolding or
-or-false true = refl
-or-false false = refl
-
-among-one : (k n : ℕ) → among (k ∷ []) n ≡ true → n ≡ k
-unfolding among
-among-one k n h = sym (eqb-true k n (sym (or-false _) ∙ h))
+use Rattle.grammar.proofs.Laws.Patterns.{among-one, fits-at}
 
 -- a token of some classes: its kind is among them, or it is an IDENT and the class of type names is
 taken-by : {P : Type 0} (cs : List ℕ) (e : Names) (t : Item) → among cs (classOf e t) ≡ true
@@ -57,15 +49,6 @@ kind-below : {ts : List Item} → Kinds ts → (i : ℕ) → getD ts i noItem .k
 kind-below kinds-none i = omega arith
 kind-below (kinds-more low high k) zero = high
 kind-below (kinds-more low high k) (suc i) = kind-below k i
-
--- a pattern that begins with a token of some kinds
-fits-at : (ks : List ℕ) (ps : List Piece) (ts : List Item) (i : ℕ) → among ks endOfTokens ≡ false
-    → fits (oneOf ks ∷ ps) (drop i ts) ≡ and (among ks (getD ts i noItem .kind)) (fits ps (drop (suc i) ts))
-unfolding fits and
-fits-at ks ps [] zero none = rw none
-fits-at ks ps [] (suc i) none = rw none
-fits-at ks ps (t ∷ ts) zero none = refl
-fits-at ks ps (t ∷ ts) (suc i) none = fits-at ks ps ts i none
 
 -- the productions of a nonterminal whose right sides pass a test
 module _ (x : ℕ) (test : List Symbol → Bool) where
