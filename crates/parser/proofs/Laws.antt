@@ -1,0 +1,24 @@
+-- Laws of readings, of what is put into a tree table, of the steps of the readers and of the questions that they ask.
+pub mod Trees
+pub mod Steps
+pub mod Gives
+pub mod After
+pub mod Views
+pub mod Kinds
+pub mod Readers
+pub mod Loops
+pub mod Options
+pub mod Openings
+pub mod Words
+pub mod Types
+pub mod Operators
+pub mod Expressions
+pub mod Statements
+pub mod Matches
+pub mod Questions
+pub mod Lists
+pub mod Parameters
+pub mod Declarations
+pub mod Functions
+pub mod Definitions
+pub mod Programs

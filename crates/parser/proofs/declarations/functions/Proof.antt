@@ -1,0 +1,97 @@
+-- `parser::declarations::functions` meets its contract. Assumes nothing.
+use mathlib.Core.Path.{_≡_, refl, _∙_, sym}
+use mathlib.Core.List.{[], _∷_}
+use lib.ListN.{length}
+use borrow.Author.Tests.{eqb-true}
+use Rattle.lexer.specs.Table.{tokenRoom, rowsOf}
+use Rattle.grammar.specs.Grammars.{part, noRow}
+use Rattle.grammar.specs.Nonterminals.{functions}
+use Rattle.grammar.specs.Nurl.{productions17}
+use Rattle.grammar.specs.Languages.{language17}
+use Rattle.grammar.specs.Sources.{viewOf}
+use Rattle.parser.specs.Readings.{namesIn}
+use Rattle.parser.proofs.Laws.After.{After, start, after-within, within-wider}
+use Rattle.parser.proofs.Laws.Views.{names-fixed}
+use Rattle.parser.proofs.Laws.Loops.{ahead, reads-falls}
+use Rattle.parser.proofs.Laws.Functions.{at-kind, functions-go, functions-end}
+use borrow.Author.Needs.{needs}
+use native.Mathlib.Omega.{arith}
+use Rattle.parser.proofs.declarations.functions.Statement.{statement}
+use Rattle.parser.proofs.declarations.functions.Tie as tie
+
+abbrev Inv-loop : tie.InvT-loop
+Inv-loop source names tokens rows₀ scope left step₀ rows step =
+    (length rows ≡ length rows₀) ×
+    (After productions17 (viewOf language17 source (rowsOf tokens)) (tokenRoom tokens) (namesIn source names tokens scope) left left
+    noRow 0 0 (part functions ∷ []) (part functions ∷ []) step₀ rows₀ step rows)
+
+abbrev μ-loop : tie.MeasureT-loop
+μ-loop source names tokens rows₀ scope left step₀ rows step = ahead tokens step
+
+loop-holds : tie.Need-loop-holds Inv-loop μ-loop
+loop-holds c =
+    let args = c .before .before .before .before .args in
+    let pre = c .before .before .before .before .pre in
+    (refl, start productions17 _ (args .tokens .now) _ (names-fixed (args .source .now) (args .tokens .now) (pre .0) _) (pre .1))
+
+next-is-requires : tie.Need-next-is-requires Inv-loop μ-loop
+next-is-requires c κs = search needs
+
+function-requires : tie.Need-function-requires Inv-loop μ-loop
+function-requires c κs =
+    let args = c .before .before .before .before .before .before .before .before .args in
+    let pre = c .before .before .before .before .before .before .before .before .pre in
+    let loop = c .before .before .before .loop in
+    let next-is = c .before .before .next-is in
+    let if1 = c .before .if1 in
+    let tokens = args .tokens .now in
+    let reached = after-within productions17 _ tokens _ (names-fixed (args .source .now) tokens (pre .0) _) (loop .inv .1) in
+    (pre .0, (within-wider tokens reached (omega arith), eqb-true _ _ (sym (next-is .ensures) ∙ if1 .taken)))
+
+loop-less : tie.Need-loop-less Inv-loop μ-loop
+loop-less c =
+    let function = c .before .before .function in
+    let next-is = c .before .before .before .before .before .next-is in
+    let if1 = c .before .before .before .before .if1 in
+    reads-falls _ (function .ensures) (at-kind _ (sym (next-is .ensures) ∙ if1 .taken))
+
+loop-again : tie.Need-loop-again Inv-loop μ-loop
+loop-again c =
+    let function = c .before .before .function in
+    let if1 = c .before .before .before .before .if1 in
+    let next-is = c .before .before .before .before .before .next-is in
+    let loop = c .before .before .before .before .before .before .loop in
+    let start = c .before .before .before .before .before .before .before .before .before .before .before in
+    let args = start .args in
+    let pre = start .pre in (
+      function .kept .1 .1 .1 .0 ∙ loop .inv .0,
+      functions-go (args .source .now) (args .tokens .now) (pre .0) _ (loop .inv .1)
+          (sym (next-is .ensures) ∙ if1 .taken) (function .ensures),
+    )
+
+same-length : tie.Need-same-length Inv-loop μ-loop
+same-length c =
+    let loop = c .before .before .loop in
+    loop .inv .0
+
+returns : tie.Need-returns Inv-loop μ-loop
+returns c =
+    let args = c .before .before .before .before .before .before .before .args in
+    let pre = c .before .before .before .before .before .before .before .pre in
+    let loop = c .before .before .loop in
+    let next-is = c .before .next-is in
+    functions-end (args .source .now) (args .tokens .now) (pre .0) _ (loop .inv .1) (sym (next-is .ensures) ∙ c .if1 .left)
+
+pub functions-spec : {M : Type 1} → statement M
+functions-spec =
+    tie.close
+    (tie.spec
+    Inv-loop
+    μ-loop
+    loop-holds
+    next-is-requires
+    function-requires
+    loop-less
+    loop-again
+    same-length
+    returns)

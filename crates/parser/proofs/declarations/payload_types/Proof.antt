@@ -1,0 +1,100 @@
+-- `parser::declarations::payload_types` meets its contract. Assumes nothing.
+use mathlib.Core.Path.{_≡_, refl, _∙_, sym}
+use mathlib.Core.List.{[], _∷_}
+use lib.ListN.{length}
+use Rattle.lexer.specs.Table.{tokenRoom, rowsOf}
+use Rattle.grammar.specs.Grammars.{part, noRow}
+use Rattle.grammar.specs.Nonterminals.{payloadTypes}
+use Rattle.grammar.specs.Nurl.{productions17}
+use Rattle.grammar.specs.Languages.{language17}
+use Rattle.grammar.specs.Sources.{viewOf}
+use Rattle.parser.specs.Readings.{namesIn}
+use Rattle.parser.proofs.Laws.After.{After, start, after-within, within-wider}
+use Rattle.parser.proofs.Laws.Views.{names-fixed}
+use Rattle.parser.proofs.Laws.Loops.{ahead, reads-falls}
+use Rattle.parser.proofs.Laws.Definitions.{payload-kind, payloadTypes-go, payloadTypes-end}
+use borrow.Author.Needs.{needs}
+use native.Mathlib.Omega.{arith}
+use Rattle.parser.proofs.declarations.payload_types.Statement.{statement}
+use Rattle.parser.proofs.declarations.payload_types.Tie as tie
+
+abbrev Inv-loop : tie.InvT-loop
+Inv-loop source names tokens rows₀ scope left step₀ rows step =
+    (length rows ≡ length rows₀) ×
+    (After productions17 (viewOf language17 source (rowsOf tokens)) (tokenRoom tokens) (namesIn source names tokens scope) left left
+    noRow 0 0 (part payloadTypes ∷ []) (part payloadTypes ∷ []) step₀ rows₀ step rows)
+
+abbrev μ-loop : tie.MeasureT-loop
+μ-loop source names tokens rows₀ scope left step₀ rows step = ahead tokens step
+
+loop-holds : tie.Need-loop-holds Inv-loop μ-loop
+loop-holds c =
+    let args = c .before .before .before .before .args in
+    let pre = c .before .before .before .before .pre in
+    (refl, start productions17 _ (args .tokens .now) _ (names-fixed (args .source .now) (args .tokens .now) (pre .0) _) (pre .1))
+
+begins-payload-type-requires : tie.Need-begins-payload-type-requires Inv-loop μ-loop
+begins-payload-type-requires c κs = search needs
+
+read-type-requires : tie.Need-read-type-requires Inv-loop μ-loop
+read-type-requires c κs =
+    let args = c .before .before .before .before .before .before .before .before .args in
+    let pre = c .before .before .before .before .before .before .before .before .pre in
+    let loop = c .before .before .before .loop in
+    let tokens = args .tokens .now in
+    let reached = after-within productions17 _ tokens _ (names-fixed (args .source .now) tokens (pre .0) _) (loop .inv .1) in
+    (pre .0, within-wider tokens reached (omega arith))
+
+loop-less : tie.Need-loop-less Inv-loop μ-loop
+loop-less c =
+    let read-type = c .before .before .read-type in
+    let if1 = c .before .before .before .before .if1 in
+    let begins-payload-type = c .before .before .before .before .before .begins-payload-type in
+    let start = c .before .before .before .before .before .before .before .before .before .before .before in
+    let args = start .args in
+    let pre = start .pre in
+    reads-falls _ (read-type .ensures [] [])
+    (payload-kind (args .source .now) (args .tokens .now) (pre .0) _ _ (sym (begins-payload-type .ensures) ∙ if1 .taken))
+
+loop-again : tie.Need-loop-again Inv-loop μ-loop
+loop-again c =
+    let read-type = c .before .before .read-type in
+    let if1 = c .before .before .before .before .if1 in
+    let begins-payload-type = c .before .before .before .before .before .begins-payload-type in
+    let loop = c .before .before .before .before .before .before .loop in
+    let start = c .before .before .before .before .before .before .before .before .before .before .before in
+    let args = start .args in
+    let pre = start .pre in
+    let source = args .source .now in (
+      read-type .kept .1 .0 ∙ loop .inv .0,
+      payloadTypes-go source (args .tokens .now) (pre .0) _ (loop .inv .1) (sym (begins-payload-type .ensures) ∙ if1 .taken)
+          (read-type .ensures source _),
+    )
+
+same-length : tie.Need-same-length Inv-loop μ-loop
+same-length c =
+    let loop = c .before .before .loop in
+    loop .inv .0
+
+returns : tie.Need-returns Inv-loop μ-loop
+returns c =
+    let args = c .before .before .before .before .before .before .before .args in
+    let pre = c .before .before .before .before .before .before .before .pre in
+    let loop = c .before .before .loop in
+    let begins-payload-type = c .before .begins-payload-type in
+    payloadTypes-end (args .source .now) (args .tokens .now) (pre .0) _ (loop .inv .1)
+    (sym (begins-payload-type .ensures) ∙ c .if1 .left)
+
+pub payload-types-spec : {M : Type 1} → statement M
+payload-types-spec =
+    tie.close
+    (tie.spec
+    Inv-loop
+    μ-loop
+    loop-holds
+    begins-payload-type-requires
+    read-type-requires
+    loop-less
+    loop-again
+    same-length
+    returns)

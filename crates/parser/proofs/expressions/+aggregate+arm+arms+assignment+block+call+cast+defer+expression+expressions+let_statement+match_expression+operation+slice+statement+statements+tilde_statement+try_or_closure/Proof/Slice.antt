@@ -1,0 +1,145 @@
+-- `slice`'s part of the cycle's proof.
+use mathlib.Core.Path.{_∙_}
+use mathlib.Core.List.{[]}
+use Rattle.grammar.specs.Nonterminals.{expression}
+use Rattle.grammar.specs.Nurl.{productions17}
+use Rattle.parser.specs.Readings.{namesIn}
+use Rattle.parser.proofs.Laws.After.{reads-within, within-small, within-wider}
+use Rattle.parser.proofs.Laws.Views.{names-fixed}
+use Rattle.parser.proofs.Laws.Readers.{level-below, opened-within, within-mark, closing, closed-by}
+use Rattle.parser.proofs.Laws.Openings.{no-expression}
+use Rattle.parser.proofs.Laws.Expressions.{slice}
+use Prim.Native.Nat.{ℕ}
+use native.Mathlib.Omega.{arith}
+use Rattle.parser.proofs.expressions.slice.Reads as slice
+use Rattle.parser.proofs.steps.open_row.Reads as open-row-reads
+use Rattle.parser.proofs.types.read_type.Reads as read-type-reads
+use Rattle.parser.proofs.steps.take.Reads as take-reads
+use Rattle.parser.proofs.expressions.expressions.Reads as expressions
+use Rattle.parser.proofs.steps.close_row.Reads as close-row-reads
+use Rattle.parser.proofs.expressions.+aggregate+arm+arms+assignment+block+call+cast+defer+expression+expressions+let_statement+match_expression+operation+slice+statement+statements+tilde_statement+try_or_closure.Lts-slice as lts
+use Rattle.parser.proofs.expressions.+aggregate+arm+arms+assignment+block+call+cast+defer+expression+expressions+let_statement+match_expression+operation+slice+statement+statements+tilde_statement+try_or_closure.Proof.Given as given
+
+abbrev cs : ℕ → lts.Claims
+cs t = (
+  open-row-reads.Asked,
+  open-row-reads.Learnt,
+  read-type-reads.Asked,
+  read-type-reads.Learnt,
+  take-reads.Asked,
+  take-reads.Learnt,
+  given.expressions-below t,
+  expressions.Post,
+  close-row-reads.Asked,
+  close-row-reads.Learnt,
+)
+
+open-row-requires : (t : ℕ) → lts.Need-open-row-requires (cs t) (given.slice-at t) slice.Post
+open-row-requires t c κs =
+    let args = c .before .before .before .before .args in
+    let pre = c .before .before .before .before .pre in
+    within-small (args .tokens .now) (pre .1 .0 .few) (omega arith) (pre .1 .1 .0)
+
+sub-read-type : (t : ℕ) → lts.Need-sub-read-type (cs t) (given.slice-at t) slice.Post
+sub-read-type t c =
+    let pre = c .before .before .before .before .before .before .pre in
+    pre .1 .1 .1 .0
+
+read-type-requires : (t : ℕ) → lts.Need-read-type-requires (cs t) (given.slice-at t) slice.Post
+read-type-requires t c κs =
+    let args = c .before .before .before .before .before .before .args in
+    let pre = c .before .before .before .before .before .before .pre in
+    let open-row = c .before .open-row in
+    let tokens = args .tokens .now in
+    let within = opened-within expression no-expression tokens (pre .1 .1 .1 .1) (pre .1 .1 .0) (open-row .ensures) in
+    (pre .1 .0, within-wider tokens within (omega arith))
+
+take-requires : (t : ℕ) → lts.Need-take-requires (cs t) (given.slice-at t) slice.Post
+take-requires t c κs =
+    let args = c .before .before .before .before .before .before .before .before .before .args in
+    let pre = c .before .before .before .before .before .before .before .before .before .pre in
+    let read-type = c .before .before .read-type in
+    let tokens = args .tokens .now in
+    let good = pre .1 .0 in
+    within-small tokens (good .few) (omega arith)
+    (reads-within productions17 _ tokens [] (names-fixed [] tokens good []) (read-type .ensures [] []))
+
+sub-expressions : (t : ℕ) → lts.Need-sub-expressions (cs t) (given.slice-at t) slice.Post
+sub-expressions t c =
+    let pre = c .before .before .before .before .before .before .before .before .before .before .before .pre in
+    pre .1 .1 .1 .0
+
+expressions-requires : (t : ℕ) → lts.Need-expressions-requires (cs t) (given.slice-at t) slice.Post
+expressions-requires t c κs =
+    let args = c .before .before .before .before .before .before .before .before .before .before .before .args in
+    let pre = c .before .before .before .before .before .before .before .before .before .before .before .pre in
+    let read-type = c .before .before .before .before .read-type in
+    let take = c .before .take in
+    let tokens = args .tokens .now in
+    let good = pre .1 .0 in
+    let within = reads-within productions17 _ tokens [] (names-fixed [] tokens good []) (read-type .ensures [] []) in
+    (omega (arith, pre .0, pre .1 .1 .1 .0), (good, within-mark tokens 12 (take .ensures) within))
+
+take-requires-2 : (t : ℕ) → lts.Need-take-requires-2 (cs t) (given.slice-at t) slice.Post
+take-requires-2 t c κs =
+    let args = c .before .before .before .before .before .before .before .before .before .before .before .before .before .before .args in
+    let pre = c .before .before .before .before .before .before .before .before .before .before .before .before .before .before .pre in
+    let expressions = c .before .before .expressions in
+    let source = args .source .now in
+    let tokens = args .tokens .now in
+    let good = pre .1 .0 in
+    let e = namesIn source (args .names .now) tokens (args .scope) in
+    within-small tokens (good .few) (omega arith)
+    (reads-within productions17 _ tokens e (names-fixed source tokens good e) (expressions .ensures))
+
+close-row-requires : (t : ℕ) → lts.Need-close-row-requires (cs t) (given.slice-at t) slice.Post
+close-row-requires t c κs =
+    let args = c .before .before .before .before .before .before .before .before .before .before .before .before .before .before .before
+    .before .args in
+    let pre = c .before .before .before .before .before .before .before .before .before .before .before .before .before .before .before
+    .before .pre in
+    let open-row = c .before .before .before .before .before .before .before .before .before .before .before .open-row in
+    let read-type = c .before .before .before .before .before .before .before .before .before .read-type in
+    let take = c .before .before .before .before .before .before .take in
+    let expressions = c .before .before .before .before .expressions in
+    let take2 = c .before .take2 in
+    let source = args .source .now in
+    let tokens = args .tokens .now in
+    let good = pre .1 .0 in
+    let e = namesIn source (args .names .now) tokens (args .scope) in
+    closing productions17 _ tokens e (names-fixed source tokens good e) good (pre .1 .1 .0)
+    (slice source tokens good e (pre .1 .1 .1 .1) (pre .1 .1 .0) (level-below (pre .1 .1 .1 .0)) (open-row .ensures)
+    (read-type .ensures source e) (take .ensures) (expressions .ensures) (take2 .ensures))
+
+same-length : (t : ℕ) → lts.Need-same-length (cs t) (given.slice-at t) slice.Post
+same-length t c =
+    let close-row = c .before .before .close-row in
+    let expressions = c .before .before .before .before .before .before .before .expressions in
+    let read-type = c .before .before .before .before .before .before .before .before .before .before .before .before .read-type in
+    close-row .kept .0 ∙ (expressions .kept .1 .1 .1 .0 ∙ read-type .kept .1 .0)
+
+returns : (t : ℕ) → lts.Need-returns (cs t) (given.slice-at t) slice.Post
+returns t c =
+    let args = c .before .before .before .before .before .before .before .before .before .before .before .before .before .before .before
+    .before .before .before .before .args in
+    let pre = c .before .before .before .before .before .before .before .before .before .before .before .before .before .before .before
+    .before .before .before .before .pre in
+    let open-row = c .before .before .before .before .before .before .before .before .before .before .before .before .before .before
+    .open-row in
+    let read-type = c .before .before .before .before .before .before .before .before .before .before .before .before .read-type in
+    let take = c .before .before .before .before .before .before .before .before .before .take in
+    let expressions = c .before .before .before .before .before .before .before .expressions in
+    let take2 = c .before .before .before .before .take2 in
+    let close-row = c .before .before .close-row in
+    let source = args .source .now in
+    let tokens = args .tokens .now in
+    let good = pre .1 .0 in
+    let e = namesIn source (args .names .now) tokens (args .scope) in
+    closed-by productions17 _ tokens e (names-fixed source tokens good e)
+    (slice source tokens good e (pre .1 .1 .1 .1) (pre .1 .1 .0) (level-below (pre .1 .1 .1 .0)) (open-row .ensures)
+    (read-type .ensures source e) (take .ensures) (expressions .ensures) (take2 .ensures)) (omega arith)
+    (close-row .ensures .0) (close-row .ensures .1)
+
+pub met : {M : Type 1} (t : ℕ) → lts.Closed (cs t) (given.slice-at t) slice.Post M
+met t = lts.spec (cs t) (given.slice-at t) slice.Post (open-row-requires t) (sub-read-type t) (read-type-requires t) (take-requires t)
+    (sub-expressions t) (expressions-requires t) (take-requires-2 t) (close-row-requires t) (same-length t) (returns t)

@@ -1,0 +1,99 @@
+-- `parser::types::fields` meets its contract. Assumes nothing.
+use Prim.Native.Nat.{ℕ}
+use mathlib.Core.Path.{_≡_, refl, _∙_, sym}
+use mathlib.Core.List.{List, [], _∷_}
+use lib.ListN.{length}
+use Rattle.lexer.specs.Table.{tokenRoom, rowsOf}
+use Rattle.grammar.specs.Grammars.{part, noRow, Names}
+use Rattle.grammar.specs.Nonterminals.{type, fields as fieldList}
+use Rattle.grammar.specs.Nurl.{productions17}
+use Rattle.grammar.specs.Languages.{language17}
+use Rattle.grammar.specs.Sources.{viewOf}
+use Rattle.parser.proofs.Laws.After.{After, start, after-within}
+use Rattle.parser.proofs.Laws.Views.{names-fixed}
+use Rattle.parser.proofs.Laws.Loops.{ahead, reads-falls, begins-kind}
+use Rattle.parser.proofs.Laws.Openings.{no-type}
+use Rattle.parser.proofs.Laws.Parameters.{fields-go, fields-end}
+use borrow.Author.Needs.{needs}
+use Rattle.parser.proofs.types.fields.Statement.{statement}
+use Rattle.parser.proofs.types.fields.Tie as tie
+
+abbrev Inv-loop : tie.InvT-loop
+Inv-loop tokens rows₀ left step₀ rows step =
+    (length rows ≡ length rows₀) × ((source : List ℕ) (e : Names) →
+    After productions17 (viewOf language17 source (rowsOf tokens)) (tokenRoom tokens) e left left noRow 0 0 (part fieldList ∷ [])
+    (part fieldList ∷ []) step₀ rows₀ step rows)
+
+abbrev μ-loop : tie.MeasureT-loop
+μ-loop tokens rows₀ left step₀ rows step = ahead tokens step
+
+loop-holds : tie.Need-loop-holds Inv-loop μ-loop
+loop-holds c =
+    let pre = c .before .before .pre in
+    (refl, λ source e. start productions17 _ _ e (names-fixed source _ (pre .0) e) (pre .1))
+
+begins-type-requires : tie.Need-begins-type-requires Inv-loop μ-loop
+begins-type-requires c κs = search needs
+
+field-requires : tie.Need-field-requires Inv-loop μ-loop
+field-requires c κs =
+    let args = c .before .before .before .before .before .before .args in
+    let pre = c .before .before .before .before .before .before .pre in
+    let loop = c .before .before .before .loop in
+    let begins-type = c .before .before .begins-type in
+    let if1 = c .before .if1 in
+    let tokens = args .tokens .now in
+    let good = pre .0 in (
+      good,
+      (
+        after-within productions17 _ tokens [] (names-fixed [] tokens good []) (loop .inv .1 [] []),
+        sym (begins-type .ensures) ∙ if1 .taken,
+      ),
+    )
+
+loop-less : tie.Need-loop-less Inv-loop μ-loop
+loop-less c =
+    let field = c .before .before .field in
+    let begins-type = c .before .before .before .before .before .begins-type in
+    let if1 = c .before .before .before .before .if1 in
+    reads-falls _ (field .ensures [] []) (begins-kind type no-type _ _ (sym (begins-type .ensures) ∙ if1 .taken))
+
+loop-again : tie.Need-loop-again Inv-loop μ-loop
+loop-again c =
+    let field = c .before .before .field in
+    let loop = c .before .before .before .before .before .before .loop in
+    let pre = c .before .before .before .before .before .before .before .before .before .pre in
+    let begins-type = c .before .before .before .before .before .begins-type in
+    let if1 = c .before .before .before .before .if1 in (
+      field .kept .1 .0 ∙ loop .inv .0,
+      λ source e.
+          fields-go source _ (pre .0) e (loop .inv .1 source e) (sym (begins-type .ensures) ∙ if1 .taken) (field .ensures source e),
+    )
+
+same-length : tie.Need-same-length Inv-loop μ-loop
+same-length c =
+    let loop = c .before .before .loop in
+    loop .inv .0
+
+returns : tie.Need-returns Inv-loop μ-loop
+returns c =
+    let args = c .before .before .before .before .before .args in
+    let pre = c .before .before .before .before .before .pre in
+    let loop = c .before .before .loop in
+    let begins-type = c .before .begins-type in
+    λ source e.
+    fields-end source (args .tokens .now) (pre .0) e (loop .inv .1 source e) (sym (begins-type .ensures) ∙ c .if1 .left)
+
+pub fields-spec : {M : Type 1} → statement M
+fields-spec =
+    tie.close
+    (tie.spec
+    Inv-loop
+    μ-loop
+    loop-holds
+    begins-type-requires
+    field-requires
+    loop-less
+    loop-again
+    same-length
+    returns)

@@ -1,0 +1,144 @@
+// The small steps that the readers are made of: each goes on from where a reading has come to, or passes a refusal on.
+use crate::Step;
+ghost use mathlib.Core.Path.{_≡_};
+ghost use Prim.Native.Nat.{_<_, _^_};
+ghost use lib.Dec.{eqb};
+ghost use Rattle.parser.specs.Steps.{Small, Spans, nextKind, refusedAt, taken, takenIf, opened, reserved, closed};
+ghost use Rattle.parser.specs.Trees.{putRow};
+
+// The numbers in a row of the tree table.
+const WIDTH: usize = 4;
+
+// The refusals of document 01 that a reading can meet: a token that cannot be taken, and a row that would be too deep.
+pub(crate) const NO_PROGRAM: u32 = 6;
+
+pub(crate) const TOO_DEEP: u32 = 7;
+
+// The kind of the place after the last token.
+pub(crate) const END: u32 = 0;
+
+// The kind of the next token, 0 at the end and after a refusal.
+pub(crate) fn next_kind(tokens: &[u32], step: Step) -> u32
+    ensures { λ r. ⌜ r ≡ nextKind (now (tokens .entry)) step ⌝ }
+{
+    match step {
+        Step::Read(at, _) => lexer::kind_at(tokens, at),
+        Step::Refused(_, _) => END,
+    }
+}
+
+// Whether the next token is of this kind; after a refusal there is none but the end.
+pub(crate) fn next_is(tokens: &[u32], step: Step, kind: u32) -> bool
+    ensures { λ r. ⌜ r ≡ eqb (nextKind (now (tokens .entry)) step) kind ⌝ }
+{
+    next_kind(tokens, step) == kind
+}
+
+// A refusal with this number at the next token.
+pub(crate) fn refuse(step: Step, number: u32) -> Step
+    ensures { λ r. ⌜ r ≡ refusedAt number step ⌝ }
+{
+    match step {
+        Step::Read(at, _) => Step::Refused(number, at),
+        Step::Refused(earlier, place) => Step::Refused(earlier, place),
+    }
+}
+
+// Takes a token of this kind.
+pub(crate) fn take(tokens: &[u32], step: Step, kind: u32) -> Step
+    requires { ⌜ Small step ⌝ }
+    ensures { λ r. ⌜ r ≡ taken (now (tokens .entry)) kind step ⌝ }
+{
+    match step {
+        Step::Read(at, row) => {
+            if lexer::kind_at(tokens, at) == kind {
+                return Step::Read(at + 1, row);
+            }
+            Step::Refused(NO_PROGRAM, at)
+        }
+        Step::Refused(number, place) => Step::Refused(number, place),
+    }
+}
+
+// Takes the next token and leaves the next row for what begins there.
+pub(crate) fn open_row(step: Step) -> Step
+    requires { ⌜ Small step ⌝ }
+    ensures { λ r. ⌜ r ≡ opened step ⌝ }
+{
+    match step {
+        Step::Read(at, row) => Step::Read(at + 1, row + 1),
+        Step::Refused(number, place) => Step::Refused(number, place),
+    }
+}
+
+// Leaves the next row for what begins at the next token.
+pub(crate) fn reserve_row(step: Step) -> Step
+    requires { ⌜ Small step ⌝ }
+    ensures { λ r. ⌜ r ≡ reserved step ⌝ }
+{
+    match step {
+        Step::Read(at, row) => Step::Read(at, row + 1),
+        Step::Refused(number, place) => Step::Refused(number, place),
+    }
+}
+
+// Writes a row of the tree, where the table has room for it.
+fn put_row(rows: &mut [u32], row: usize, kind: u32, first: usize, cover: usize, count: usize)
+    requires { ⌜ (first < 2 ^ 32) × (cover < 2 ^ 32) × (count < 2 ^ 32) ⌝ }
+    ensures { λ r. ⌜ now (rows .exit)
+        ≡ putRow row (record { kind = kind; first = first; cover = cover; count = count }) (now (rows .entry)) ⌝ }
+{
+    if row < rows.len() / WIDTH {
+        let at = row * WIDTH;
+        rows[at] = kind;
+        rows[at + 1] = first as u32;
+        rows[at + 2] = cover as u32;
+        rows[at + 3] = count as u32;
+    }
+}
+
+// Writes the row of this kind over all that lies between two steps, and answers the second.
+pub(crate) fn close_row(rows: &mut [u32], from: Step, to: Step, kind: u32) -> Step
+    requires { ⌜ Small from ⌝ }
+    requires { ⌜ Small to ⌝ }
+    requires { ⌜ Spans from to ⌝ }
+    ensures answer { λ r. ⌜ r ≡ to ⌝ }
+    ensures table { λ r. ⌜ now (rows .exit) ≡ closed kind from to (now (rows .entry)) ⌝ }
+{
+    match from {
+        Step::Refused(_, _) => to,
+        Step::Read(at, row) => match to {
+            Step::Refused(_, _) => to,
+            Step::Read(next, last) => {
+                put_row(rows, row, kind, at, next - at, last - row);
+                to
+            }
+        },
+    }
+}
+
+// Takes the next token where it is of this kind.
+pub(crate) fn take_if(tokens: &[u32], step: Step, kind: u32) -> Step
+    requires { ⌜ Small step ⌝ }
+    ensures { λ r. ⌜ r ≡ takenIf (now (tokens .entry)) kind step ⌝ }
+{
+    match step {
+        Step::Read(at, row) => {
+            if lexer::kind_at(tokens, at) == kind {
+                return Step::Read(at + 1, row);
+            }
+            step
+        }
+        Step::Refused(number, place) => Step::Refused(number, place),
+    }
+}
+
+// A row of one token.
+pub(crate) fn leaf(rows: &mut [u32], from: Step, kind: u32) -> Step
+    requires { ⌜ Small from ⌝ }
+    requires { ⌜ Small (opened from) ⌝ }
+    ensures answer { λ r. ⌜ r ≡ opened from ⌝ }
+    ensures table { λ r. ⌜ now (rows .exit) ≡ closed kind from (opened from) (now (rows .entry)) ⌝ }
+{
+    close_row(rows, from, open_row(from), kind)
+}
