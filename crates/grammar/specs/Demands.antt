@@ -78,29 +78,25 @@ module _ (l : Language) (source names : List ℕ) where
       pub row-table : rowsAfter ≡ placed row-list rows
       pub derived : DerivationOf l source names token-list limit row-list
 
-    -- The demands on the result r of a reader for this source, list and tables. Of the readers that document 01 names,
-    -- - one that refuses all falls to `accepts` (`refuses-all-falls` in proofs/);
-    -- - one that answers M1 for every source falls to `accepted`, by its token count (`answers-M1-falls`);
-    -- - one that never writes falls to `accepted`, by the token table (`never-writes-falls`);
-    -- - one that reads the first declaration and invents the others falls to `accepted`, by `derived`, and `only` fixes each row
-    --   (`reads-first-falls`);
-    -- - one that reports invented row counts falls to `accepted` for the tokens (`invents-tokens-falls`) and to `only` for the tree
-    --   (`invents-rows-falls`).
-    pub record Demands (r : Result) : Type 0 where
-      -- Demand 1: "A refusal carries its number and its place, and both lent tables are then left exactly as document 01's table
-      -- says", and a refusal is "given exactly when" that table says.
+    -- Demand 1: "A refusal carries its number and its place, and both lent tables are then left exactly as document 01's table
+    -- says", and a refusal is "given exactly when" that table says.
+    pub record Demand1 (r : Result) : Type 0 where
       pub refused : (number place : ℕ) → r .answer ≡ Refused number place → Refusal number place (r .tokens) (r .rows)
       pub refusal : (number place : ℕ) (tokensAfter rowsAfter : List ℕ) → Refusal number place tokensAfter rowsAfter
           → r ≡ record { answer = Refused number place; tokens = tokensAfter; rows = rowsAfter }
-      -- Demand 2: "The token table is the one that the lexical rules of grammar 1.7 give .., every byte accounted for once. On
-      -- acceptance the rows are, in order, a derivation of those tokens by the grammar." The token table after 6, 7 and 8 is in
-      -- `Refusal`. That every byte is accounted for is said of the lexical rules, and so of any reader that keeps to them.
+
+    -- Demand 2: "The token table is the one that the lexical rules of grammar 1.7 give .., every byte accounted for once. On
+    -- acceptance the rows are, in order, a derivation of those tokens by the grammar." The token table after 6, 7 and 8 is in
+    -- `Refusal`. That every byte is accounted for is said of the lexical rules, and so of any reader that keeps to them.
+    pub record Demand2 (r : Result) : Type 0 where
       pub every-byte : (ts : List Token) → Readable ts → flatten (pieces source (lexemes (l .lexical) source)) ≡ source
       pub accepted : (tokenCount rowCount : ℕ) → r .answer ≡ Accepted tokenCount rowCount
           → Acceptance tokenCount rowCount (r .tokens) (r .rows)
-      -- Demand 3: "It is accepted exactly when its tokens have a derivation ... nested at most 200 levels" (the other half is
-      -- `accepted`), and "The rows filled in the tree table are exactly its rows, in order, and the tree's row count is their
-      -- number."
+
+    -- Demand 3, of any source "within the length limit with a good name list, clean tokens and room in both tables".
+    pub record Demand3 (r : Result) : Type 0 where
+      -- "It is accepted exactly when its tokens have a derivation ... nested at most 200 levels" (the other half is `accepted`
+      -- above), and "The rows filled in the tree table are exactly its rows, in order, and the tree's row count is their number."
       pub accepts : (ts : List Token) (rs : List Row) → Readable ts → Room ts → DerivationOf l source names ts limit rs
           → r ≡ record { answer = Accepted (length ts) (length rs); tokens = filled ts tokens; rows = placed rs rows }
       -- "Every derivation of those tokens, at whatever depth, is then that same one."
@@ -113,6 +109,19 @@ module _ (l : Language) (source names : List ℕ) where
       -- "“too deep” only if there is none within 200"
       pub none-within : (place : ℕ) → r .answer ≡ Refused 7 place → (ts : List Token) → Readable ts
           → (rs : List Row) → DerivationOf l source names ts limit rs → ⊥
+
+    -- The demands on the result r of a reader for this source, list and tables. Of the readers that document 01 names,
+    -- - one that refuses all falls to `accepts` (`refuses-all-falls` in proofs/);
+    -- - one that answers M1 for every source falls to `accepted`, by its token count (`answers-M1-falls`);
+    -- - one that never writes falls to `accepted`, by the token table (`never-writes-falls`);
+    -- - one that reads the first declaration and invents the others falls to `accepted`, by `derived`, and `only` fixes each row
+    --   (`reads-first-falls`);
+    -- - one that reports invented row counts falls to `accepted` for the tokens (`invents-tokens-falls`) and to `only` for the tree
+    --   (`invents-rows-falls`).
+    pub record Demands (r : Result) : Type 0 where
+      pub demand1 : Demand1 r
+      pub demand2 : Demand2 r
+      pub demand3 : Demand3 r
 
 -- a reader: from a source, a list of names, a token table and a tree table to a result
 abbrev pub Reader : Type 0

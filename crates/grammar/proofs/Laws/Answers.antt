@@ -240,20 +240,26 @@ module _ (l : Language) (source names : List ℕ) (limit : ℕ) (tokens rows : L
     pub answered-demands : Demands l source names limit tokens rows (answered l limit source names tokens rows)
     unfolding answered
     answered-demands = record {
-      refused = refused-by (verdict l limit source names (tokenRoom tokens) (treeRoom rows)) found;
-      refusal = refusal-result;
-      every-byte = λ (ts : List Token) (k : Readable l source names ts). clean-cover (l .lexical) (fit .marks) source ts (k .scans);
-      accepted = accepted-by (verdict l limit source names (tokenRoom tokens) (treeRoom rows)) found;
-      accepts = λ (ts : List Token) (rs : List Row) (k : Readable l source names ts) (room : Room l source names limit tokens rows ts)
-          (d : DerivationOf l source names ts limit rs).
-          accept-result ts rs k (room .for-tokens) (room .for-rows rs d) d;
-      only = λ t n h. only-by t n _ _ (accepted-by (verdict l limit source names (tokenRoom tokens) (treeRoom rows)) found t n h);
-      no-derivation = λ place h ts k n rs.
-          let refusal = refused-by (verdict l limit source names (tokenRoom tokens) (treeRoom rows)) found 6 place h in
-          read-stuck l fit source names ts (k .scans) limit place n rs (refusal-stops 6 place _ _ refusal ts k .six refl);
-      none-within = λ place h ts k rs.
-          let refusal = refused-by (verdict l limit source names (tokenRoom tokens) (treeRoom rows)) found 7 place h in
-          read-deep l fit source names ts (k .scans) limit place rs (refusal-stops 7 place _ _ refusal ts k .seven refl);
+      demand1 = record {
+        refused = refused-by (verdict l limit source names (tokenRoom tokens) (treeRoom rows)) found;
+        refusal = refusal-result;
+      };
+      demand2 = record {
+        every-byte = λ (ts : List Token) (k : Readable l source names ts). clean-cover (l .lexical) (fit .marks) source ts (k .scans);
+        accepted = accepted-by (verdict l limit source names (tokenRoom tokens) (treeRoom rows)) found;
+      };
+      demand3 = record {
+        accepts = λ (ts : List Token) (rs : List Row) (k : Readable l source names ts) (room : Room l source names limit tokens rows ts)
+            (d : DerivationOf l source names ts limit rs).
+            accept-result ts rs k (room .for-tokens) (room .for-rows rs d) d;
+        only = λ t n h. only-by t n _ _ (accepted-by (verdict l limit source names (tokenRoom tokens) (treeRoom rows)) found t n h);
+        no-derivation = λ place h ts k n rs.
+            let refusal = refused-by (verdict l limit source names (tokenRoom tokens) (treeRoom rows)) found 6 place h in
+            read-stuck l fit source names ts (k .scans) limit place n rs (refusal-stops 6 place _ _ refusal ts k .six refl);
+        none-within = λ place h ts k rs.
+            let refusal = refused-by (verdict l limit source names (tokenRoom tokens) (treeRoom rows)) found 7 place h in
+            read-deep l fit source names ts (k .scans) limit place rs (refusal-stops 7 place _ _ refusal ts k .seven refl);
+      };
     }
 
     -- what has the demands is the answer
@@ -262,10 +268,10 @@ module _ (l : Language) (source names : List ℕ) (limit : ℕ) (tokens rows : L
     demands-answered r d = cases (verdict l limit source names (tokenRoom tokens) (treeRoom rows)) found
       where
         cases : (w : Verdict) → Found w → r ≡ result w tokens rows
-        cases w (found-early {number = number} {place = place} f) = d .refusal number place tokens rows f
-        cases w (found-late {number = number} {place = place} {ts = ts} f) = d .refusal number place (filled ts tokens) (cleared rows) f
+        cases w (found-early {number = number} {place = place} f) = d .demand1 .refusal number place tokens rows f
+        cases w (found-late {number = number} {place = place} {ts = ts} f) = d .demand1 .refusal number place (filled ts tokens) (cleared rows) f
         cases w (found-accept {ts = ts} {rs = rs} k room space e) =
-            d .accepts ts rs k (record {
+            d .demand3 .accepts ts rs k (record {
               for-tokens = room;
               for-rows = λ (others : List Row) (o : DerivationOf l source names ts limit others).
                   rw (read-same l fit source names ts (k .scans) limit limit others rs o e) space;

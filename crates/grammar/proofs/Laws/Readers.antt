@@ -48,7 +48,7 @@ two-accepted = refl
 -- what acceptance says of the empty source
 empty : Acceptance language17 [] [] 200 lentTokens lentRows 0 1
     (answer17 [] [] lentTokens lentRows .tokens) (answer17 [] [] lentTokens lentRows .rows)
-empty = answer17-meets [] [] lentTokens lentRows .accepted 0 1 empty-accepted
+empty = answer17-meets [] [] lentTokens lentRows .demand2 .accepted 0 1 empty-accepted
 
 empty-tokens : scan edition17 [] ≡ clean []
 unfolding scans
@@ -65,7 +65,7 @@ refusesAll source names tokens rows =
 
 pub refuses-all-falls : MeetsDemands refusesAll → ⊥
 refuses-all-falls meets =
-    let due = meets [] [] lentTokens lentRows .accepts (empty .token-list) (empty .row-list) (empty .readable) (empty .room) (empty .derived) in
+    let due = meets [] [] lentTokens lentRows .demand3 .accepts (empty .token-list) (empty .row-list) (empty .readable) (empty .room) (empty .derived) in
     let same = ap (λ (r : Result). r .answer) due in
     let z : _≡_ {A = ℕ} 0 1 = cc in
     absurd (omega arith)
@@ -77,7 +77,7 @@ answersM1 source names tokens rows =
 
 pub answers-M1-falls : MeetsDemands answersM1 → ⊥
 answers-M1-falls meets =
-    let said = meets floor [] lentTokens lentRows .accepted 0 1 refl in
+    let said = meets floor [] lentTokens lentRows .demand2 .accepted 0 1 refl in
     let count = said .token-count in
     let found = said .readable .scans in
     let lexed = floor-tokens in
@@ -99,7 +99,7 @@ floor-written ts list table =
 
 pub never-writes-falls : MeetsDemands neverWrites → ⊥
 never-writes-falls meets =
-    let said = meets floor [] lentTokens lentRows .accepted 4 4 floor-accepted in
+    let said = meets floor [] lentTokens lentRows .demand2 .accepted 4 4 floor-accepted in
     let found = said .readable .scans in
     let lexed = floor-tokens in
     let list : said .token-list ≡ floorTokens = cc in
@@ -121,8 +121,8 @@ two-kept = refl
 
 pub reads-first-falls : MeetsDemands readsFirst → ⊥
 reads-first-falls meets =
-    let said = meets two [] lentTokens lentRows .accepted 10 5 two-accepted in
-    let due = answer17-meets two [] lentTokens lentRows .only 10 5 two-accepted (said .token-list) (said .readable) 200 (said .row-list) (said .derived) in
+    let said = meets two [] lentTokens lentRows .demand2 .accepted 10 5 two-accepted in
+    let due = answer17-meets two [] lentTokens lentRows .demand3 .only 10 5 two-accepted (said .token-list) (said .readable) 200 (said .row-list) (said .derived) in
     let same = ap (λ (r : Result). getD (r .rows) 8 0) due ∙ sym (ap (λ (numbers : List ℕ). getD numbers 8 0) (said .row-table)) in
     let written = two-written in
     let kept = two-kept in
@@ -140,7 +140,7 @@ inventsCounts f g source names tokens rows =
 
 pub invents-tokens-falls : MeetsDemands (inventsCounts suc (λ n. n)) → ⊥
 invents-tokens-falls meets =
-    let said = meets [] [] lentTokens lentRows .accepted 1 1 (rw empty-accepted refl) in
+    let said = meets [] [] lentTokens lentRows .demand2 .accepted 1 1 (rw empty-accepted refl) in
     let count = said .token-count in
     let found = said .readable .scans in
     let lexed = empty-tokens in
@@ -150,7 +150,7 @@ invents-tokens-falls meets =
 
 pub invents-rows-falls : MeetsDemands (inventsCounts (λ n. n) suc) → ⊥
 invents-rows-falls meets =
-    let due = meets [] [] lentTokens lentRows .only 0 2 (rw empty-accepted refl) (empty .token-list) (empty .readable) 200 (empty .row-list) (empty .derived) in
+    let due = meets [] [] lentTokens lentRows .demand3 .only 0 2 (rw empty-accepted refl) (empty .token-list) (empty .readable) 200 (empty .row-list) (empty .derived) in
     let answers : counted (λ n. n) suc (answer17 [] [] lentTokens lentRows .answer)
     ≡ Accepted (length (empty .token-list)) (length (empty .row-list)) = ap (λ (r : Result). r .answer) due in
     let said : Accepted 0 2 ≡ Accepted (length (empty .token-list)) (length (empty .row-list)) = rw empty-accepted at answers in
