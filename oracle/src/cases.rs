@@ -1,57 +1,82 @@
-//! One test case of the lexical layer: how it is written to the input file of
-//! a test program, and the output that program must print for it.
+//! One test case of a whole reading: how it is written to the input file of a
+//! test program, and the output that program must print for it.
 
+use crate::answer::{read, Answer};
 use crate::desk::line_of;
-use crate::names::check_names;
-use crate::settings::{BASE, SOURCE_LIMIT, TOKEN_WIDTH};
-use crate::tokens::{scan, tokenize, Tokenized};
+use crate::names::{check_names, TypeNames};
+use crate::parser::parse;
+use crate::settings::{BASE, ROW_WIDTH, SOURCE_LIMIT, TOKEN_WIDTH};
+use crate::tokens::scan;
 
 /// The limits of the test program that reads the case file.
 pub const LONGEST_PIECE: usize = 70_000;
-pub const LONGEST_NAME_LIST: usize = 16_385;
-pub const LONGEST_TABLE: usize = 9_000;
 pub const LONGEST_SOURCE: usize = SOURCE_LIMIT + 1;
+pub const LONGEST_NAME_LIST: usize = 16_385;
+pub const LONGEST_TOKEN_TABLE: usize = 9_000;
+pub const LONGEST_TREE_TABLE: usize = 12_000;
+pub const LONGEST_FILE: usize = 1_400_000;
 
-/// Number `i` of the table holds `PATTERN + i` before the reading.
-pub const PATTERN: u32 = 900_000;
+/// Number `i` of the token table holds this plus `i` before the reading.
+pub const TOKEN_PATTERN: u32 = 900_000;
 
-/// A source, made of a piece repeated, with a name list and the length of the
-/// token table in numbers.
+/// Number `i` of the tree table holds this plus `i` before the reading.
+pub const TREE_PATTERN: u32 = 700_000;
+
+/// A source, made of a piece repeated, with a name list and the lengths of the
+/// two tables in numbers.
 #[derive(Clone, Debug, PartialEq, Eq)]
 pub struct Case {
     pub piece: Vec<u8>,
     pub repeats: usize,
     pub names: Vec<u8>,
-    pub table_length: usize,
+    pub token_length: usize,
+    pub tree_length: usize,
 }
 
 impl Case {
     /// A source that stands once, without extra names, with room for its
-    /// tokens, for one row more and for one number past the whole rows.
+    /// tokens and rows, for one row more, and for some numbers past the last
+    /// whole rows.
     pub fn new(source: impl AsRef<[u8]>) -> Case {
+        Case::with_names(source, "")
+    }
+
+    /// The same with a list of extra names.
+    pub fn with_names(source: impl AsRef<[u8]>, list: impl AsRef<[u8]>) -> Case {
         let piece = source.as_ref().to_vec();
-        let table_length = (token_count(&piece) + 1) * TOKEN_WIDTH + 1;
+        let names = list.as_ref().to_vec();
+        let needed = Needed::of(&piece, &names);
+        // One or two stray numbers, and one to three, by the source's length.
+        let token_length = (needed.tokens + 1) * TOKEN_WIDTH + 1 + piece.len() % 2;
+        let tree_length = (needed.rows + 1) * ROW_WIDTH + 1 + piece.len() % 3;
         Case {
             piece,
             repeats: 1,
-            names: Vec::new(),
-            table_length,
+            names,
+            token_length,
+            tree_length,
         }
     }
 
-    /// The same with a table of this many numbers.
-    pub fn table(mut self, length: usize) -> Case {
-        self.table_length = length;
+    /// The same with a token table of this many numbers.
+    pub fn token_table(mut self, length: usize) -> Case {
+        self.token_length = length;
         self
     }
 
-    /// The same with this list of extra names.
+    /// The same with a tree table of this many numbers.
+    pub fn tree_table(mut self, length: usize) -> Case {
+        self.tree_length = length;
+        self
+    }
+
+    /// The same with this list of extra names and the same tables.
     pub fn names(mut self, list: impl AsRef<[u8]>) -> Case {
         self.names = list.as_ref().to_vec();
         self
     }
 
-    /// The same with the piece standing so many times.
+    /// The same with the piece standing so many times and the same tables.
     pub fn repeated(mut self, repeats: usize) -> Case {
         self.repeats = repeats;
         self
@@ -63,20 +88,24 @@ impl Case {
     }
 
     /// The token table before the reading.
-    pub fn table_before(&self) -> Vec<u32> {
-        (0..self.table_length)
-            .map(|index| PATTERN + index as u32)
-            .collect()
+    pub fn tokens_before(&self) -> Vec<u32> {
+        pattern(TOKEN_PATTERN, self.token_length)
+    }
+
+    /// The tree table before the reading.
+    pub fn tree_before(&self) -> Vec<u32> {
+        pattern(TREE_PATTERN, self.tree_length)
     }
 
     /// The case as it stands in the input file.
     pub fn input(&self) -> Vec<u8> {
         let header = format!(
-            "{} {} {} {}\n",
+            "{} {} {} {} {}\n",
             self.piece.len(),
             self.repeats,
             self.names.len(),
-            self.table_length
+            self.token_length,
+            self.tree_length
         );
         let mut bytes = header.into_bytes();
         bytes.extend_from_slice(&self.piece);
@@ -85,66 +114,101 @@ impl Case {
         bytes
     }
 
-    /// The answer and the token table afterwards.
-    pub fn run(&self) -> (Tokenized, Vec<u32>) {
-        let mut table = self.table_before();
-        let answer = lexical_answer(&self.source(), &self.names, &mut table);
-        (answer, table)
+    /// The answer and both tables afterwards, the token table first.
+    pub fn run(&self) -> (Answer, Vec<u32>, Vec<u32>) {
+        let mut tokens = self.tokens_before();
+        let mut tree = self.tree_before();
+        let answer = read(&self.source(), &self.names, &mut tokens, &mut tree);
+        (answer, tokens, tree)
     }
 
     /// What the test program must print for this case.
     pub fn output(&self) -> String {
-        let (answer, table) = self.run();
+        let (answer, tokens, tree) = self.run();
         let first_line = match answer {
-            Tokenized::Tokens(count) => format!("tokens {count}\n"),
-            Tokenized::Refused(number, place) => format!("refused {number} {place}\n"),
+            Answer::Accepted { tokens, rows } => format!("accepted {tokens} {rows}\n"),
+            Answer::Refused { number, place } => format!("refused {number} {place}\n"),
         };
-        first_line + &table_text(&table, &self.table_before())
+        let tokens = table_text(&tokens, &self.tokens_before(), TOKEN_WIDTH);
+        let tree = table_text(&tree, &self.tree_before(), ROW_WIDTH);
+        format!("{first_line}{tokens}tree\n{tree}")
     }
 }
 
-/// The number of tokens of a source, 0 if the source has a fault.
-pub fn token_count(source: &[u8]) -> usize {
-    scan(source, BASE.edition).map_or(0, |tokens| tokens.len())
+/// A table in which number `i` holds `first` plus `i`.
+fn pattern(first: u32, length: usize) -> Vec<u32> {
+    (0..length as u32).map(|index| first + index).collect()
 }
 
-/// Refusals 1 to 5 in the scope's order, else the token count.
-pub fn lexical_answer(source: &[u8], names: &[u8], table: &mut [u32]) -> Tokenized {
-    if source.len() > SOURCE_LIMIT {
-        return Tokenized::Refused(1, 0);
-    }
-    if let Some(place) = check_names(names) {
-        return Tokenized::Refused(2, place as u32);
-    }
-    tokenize(source, table)
+/// The rows that a reading of a source needs in both tables.
+#[derive(Clone, Copy, Debug, PartialEq, Eq)]
+pub struct Needed {
+    /// The number of tokens, 0 if the source has a fault.
+    pub tokens: usize,
+    /// The number of tree rows, 1 if there is no derivation.
+    pub rows: usize,
 }
 
-/// The table as it is printed: each whole row on a line, the unchanged rows at
-/// the end of the whole rows as one line with their number, and the numbers
-/// past the last whole row on a last line.
-fn table_text(table: &[u32], before: &[u32]) -> String {
-    let whole_rows = table.len() / TOKEN_WIDTH;
-    let mut changed_rows = whole_rows;
-    while changed_rows > 0 && is_row_equal(table, before, changed_rows - 1) {
-        changed_rows -= 1;
+impl Needed {
+    /// What a source with a list of extra names needs.
+    pub fn of(source: &[u8], names: &[u8]) -> Needed {
+        let Ok(tokens) = scan(source, BASE.edition) else {
+            return Needed { tokens: 0, rows: 1 };
+        };
+        let list = match check_names(names) {
+            None => names,
+            Some(_) => b"",
+        };
+        let type_names = TypeNames::collect(source, &tokens, list, BASE.edition);
+        let rows = parse(source, &tokens, &type_names, BASE).map_or(1, |rows| rows.len());
+        Needed {
+            tokens: tokens.len(),
+            rows,
+        }
     }
+
+    /// The length in numbers of a token table with exactly room.
+    pub fn token_length(self) -> usize {
+        self.tokens * TOKEN_WIDTH
+    }
+
+    /// The length in numbers of a tree table with exactly room.
+    pub fn tree_length(self) -> usize {
+        self.rows * ROW_WIDTH
+    }
+}
+
+/// A table as it is printed: each whole row on a line, where the unchanged
+/// rows at the end of the whole rows, or else the zero rows there, are one
+/// line with their number; and the numbers past the last whole row on a last
+/// line.
+fn table_text(table: &[u32], before: &[u32], width: usize) -> String {
+    let rows: Vec<&[u32]> = table.chunks_exact(width).collect();
+    let rows_before: Vec<&[u32]> = before.chunks_exact(width).collect();
+    let unchanged = rows_at_end(&rows, |index| rows[index] == rows_before[index]);
+    let zero = rows_at_end(&rows, |index| rows[index].iter().all(|number| *number == 0));
+    let (word, count) = if unchanged > 0 {
+        ("unchanged", unchanged)
+    } else {
+        ("zero", zero)
+    };
     let mut text = String::new();
-    for row in table.chunks(TOKEN_WIDTH).take(changed_rows) {
+    for row in &rows[..rows.len() - count] {
         text.push_str(&line_of(row));
     }
-    if changed_rows < whole_rows {
-        text.push_str(&format!("unchanged {}\n", whole_rows - changed_rows));
+    if count > 0 {
+        text.push_str(&format!("{word} {count}\n"));
     }
-    let rest = &table[whole_rows * TOKEN_WIDTH..];
+    let rest = &table[rows.len() * width..];
     if !rest.is_empty() {
         text.push_str(&line_of(rest));
     }
     text
 }
 
-fn is_row_equal(table: &[u32], before: &[u32], row: usize) -> bool {
-    let first = row * TOKEN_WIDTH;
-    table[first..first + TOKEN_WIDTH] == before[first..first + TOKEN_WIDTH]
+/// How many rows at the end are as asked for.
+fn rows_at_end(rows: &[&[u32]], is_so: impl Fn(usize) -> bool) -> usize {
+    (0..rows.len()).rev().take_while(|row| is_so(*row)).count()
 }
 
 #[cfg(test)]
@@ -153,28 +217,40 @@ mod tests {
 
     #[test]
     fn a_case_is_written_as_the_format_says() {
-        let case = Case::new("a :").names("Ab\nc").repeated(2).table(10);
-        assert_eq!(case.input(), b"3 2 4 10\na :Ab\nc\n");
-        assert_eq!(Case::new("").table(0).input(), b"0 1 0 0\n\n");
+        let case = Case::new("a :").names("Ab\nc").repeated(2);
+        let case = case.token_table(10).tree_table(7);
+        assert_eq!(case.input(), b"3 2 4 10 7\na :Ab\nc\n");
+        let case = Case::new("").token_table(0).tree_table(0);
+        assert_eq!(case.input(), b"0 1 0 0 0\n\n");
     }
 
     #[test]
-    fn the_output_shows_the_whole_table() {
-        let expected = "tokens 2\n1 0 1\n12 2 1\nunchanged 1\n900009\n";
-        assert_eq!(Case::new("a :").output(), expected);
-        let expected = "tokens 2\n1 0 1\n12 2 1\n";
-        assert_eq!(Case::new("a :").table(6).output(), expected);
-        let expected = "tokens 2\n1 0 1\n12 2 1\n900006 900007\n";
-        assert_eq!(Case::new("a :").table(8).output(), expected);
-        let expected = "tokens 2\n1 0 1\n12 2 1\nunchanged 2\n";
-        assert_eq!(Case::new("a :").table(12).output(), expected);
-        let expected = "refused 5 2\nunchanged 1\n900003 900004\n";
-        assert_eq!(Case::new("a :").table(5).output(), expected);
-        assert_eq!(Case::new("a :").table(0).output(), "refused 5 2\n");
-        assert_eq!(Case::new("").table(1).output(), "tokens 0\n900000\n");
+    fn a_case_has_room_and_stray_numbers() {
+        let case = Case::new(": i a 1");
+        assert_eq!((case.token_length, case.tree_length), (17, 22));
+        let case = Case::new("");
+        assert_eq!((case.token_length, case.tree_length), (4, 9));
+        let case = Case::with_names("@ g → v { : Foo x 1 }", "Foo");
         assert_eq!(
-            Case::new(",").table(3).output(),
-            "refused 3 0\nunchanged 1\n"
+            case.run().0,
+            Answer::Accepted {
+                tokens: 10,
+                rows: 7
+            }
         );
+    }
+
+    #[test]
+    fn unchanged_rows_come_before_zero_rows() {
+        let before = [7, 8, 9, 10, 11];
+        assert_eq!(
+            table_text(&[0, 0, 9, 10, 11], &before, 2),
+            "0 0\nunchanged 1\n11\n"
+        );
+        assert_eq!(table_text(&[0, 0, 0, 0, 11], &before, 2), "zero 2\n11\n");
+        assert_eq!(table_text(&[1, 0, 0, 0], &before[..4], 2), "1 0\nzero 1\n");
+        assert_eq!(table_text(&[7, 8, 0, 1], &before[..4], 2), "7 8\n0 1\n");
+        assert_eq!(table_text(&[], &[], 2), "");
+        assert_eq!(table_text(&[7], &[7], 2), "7\n");
     }
 }

@@ -1,5 +1,6 @@
 //! The productions of top-level declarations.
 
+use crate::coverage::{asked, took, took_literal};
 use crate::expressions::begins_literal;
 use crate::kinds::{row, token};
 use crate::parser::{Parser, Step};
@@ -15,16 +16,20 @@ impl Parser<'_> {
             token::PERCENT => self.trait_or_impl_decl(level),
             token::AT => self.fn_decl(level),
             token::COLON => self.colon_decl(level),
-            _ => Err(self.cannot_take()),
+            _ => {
+                took("decl: none begins");
+                Err(self.cannot_take())
+            }
         }
     }
 
     /// import_decl = '$' STR IDENT? ;
     fn import_decl(&mut self, level: u32) -> Step {
+        took("decl = import_decl");
         let index = self.open(row::IMPORT, level, self.sees(token::DOLLAR))?;
         self.take(token::DOLLAR)?;
         self.take(token::STR)?;
-        if self.sees(token::IDENT) {
+        if asked("import_decl: IDENT?", self.sees(token::IDENT)) {
             self.take(token::IDENT)?;
         }
         self.close(index)
@@ -32,13 +37,14 @@ impl Parser<'_> {
 
     /// ffi_decl = '&' STR '@' IDENT ffi_param* '→' type ;
     fn ffi_decl(&mut self, level: u32) -> Step {
+        took("decl = ffi_decl");
         let index = self.open(row::FOREIGN, level, self.sees(token::AMPERSAND))?;
         self.take(token::AMPERSAND)?;
         self.take(token::STR)?;
         self.take(token::AT)?;
         self.take(token::IDENT)?;
-        while begins_type(self.kind()) {
-            self.field(level + 1)?;
+        while asked("ffi_decl: another ffi_param", begins_type(self.kind())) {
+            self.field(level + 1, "rule 5: ffi_param = type IDENT")?;
         }
         self.take(token::ARROW)?;
         self.type_expr(level + 1)?;
@@ -46,11 +52,12 @@ impl Parser<'_> {
     }
 
     /// ffi_param = type IDENT? ;  field = type IDENT? ;
-    /// Rule 5: one without a name is not followed by an IDENT.
-    fn field(&mut self, level: u32) -> Step {
+    /// Rule 5: one without a name is not followed by an IDENT. The text is for
+    /// the coverage counts.
+    fn field(&mut self, level: u32, with_name: &'static str) -> Step {
         let index = self.open(row::PARAMETER, level, begins_type(self.kind()))?;
         self.type_expr(level + 1)?;
-        if self.sees(token::IDENT) {
+        if asked(with_name, self.sees(token::IDENT)) {
             self.take(token::IDENT)?;
         }
         self.close(index)
@@ -58,6 +65,7 @@ impl Parser<'_> {
 
     /// param = type IDENT ;
     pub fn param(&mut self, level: u32) -> Step {
+        took("param = type IDENT");
         let index = self.open(row::PARAMETER, level, begins_type(self.kind()))?;
         self.type_expr(level + 1)?;
         self.take(token::IDENT)?;
@@ -66,7 +74,7 @@ impl Parser<'_> {
 
     /// param* '→' type, for a row at `level`.
     pub fn params_and_result(&mut self, level: u32) -> Step {
-        while begins_type(self.kind()) {
+        while asked("param*: another param", begins_type(self.kind())) {
             self.param(level + 1)?;
         }
         self.take(token::ARROW)?;
@@ -77,12 +85,14 @@ impl Parser<'_> {
     fn signature(&mut self, level: u32) -> Step {
         self.take(token::AT)?;
         self.take(token::IDENT)?;
-        self.optional_name_list(Words::Declared, level + 1)?;
+        let optional = "fn_decl and fn_header: type_params?";
+        self.optional_name_list(Words::Declared, level + 1, optional)?;
         self.params_and_result(level)
     }
 
     /// fn_decl = '@' IDENT type_params? param* '→' type block ;
     fn fn_decl(&mut self, level: u32) -> Step {
+        took("decl = fn_decl");
         let index = self.open(row::FUNCTION, level, self.sees(token::AT))?;
         self.signature(level)?;
         self.block(level + 1)?;
@@ -94,7 +104,10 @@ impl Parser<'_> {
     fn trait_method(&mut self, level: u32) -> Step {
         let index = self.open(row::HEADER, level, self.sees(token::AT))?;
         self.signature(level)?;
-        if self.sees(token::OPEN_BRACE) {
+        if asked(
+            "trait_decl: fn_decl and no fn_header",
+            self.sees(token::OPEN_BRACE),
+        ) {
             self.change_kind(index, row::FUNCTION);
             self.block(level + 1)?;
         }
@@ -107,17 +120,20 @@ impl Parser<'_> {
         let index = self.open(row::TRAIT, level, self.sees(token::PERCENT))?;
         self.take(token::PERCENT)?;
         self.take(token::IDENT)?;
-        self.optional_name_list(Words::Declared, level + 1)?;
+        let optional = "trait_decl and impl_decl: type_params?";
+        self.optional_name_list(Words::Declared, level + 1, optional)?;
         if self.sees(token::OPEN_BRACE) {
+            took("decl = trait_decl");
             self.take(token::OPEN_BRACE)?;
-            while !self.sees(token::CLOSE_BRACE) {
+            while asked("trait_decl: another method", !self.sees(token::CLOSE_BRACE)) {
                 self.trait_method(level + 1)?;
             }
         } else {
+            took("decl = impl_decl");
             self.change_kind(index, row::IMPL);
             self.type_expr(level + 1)?;
             self.take(token::OPEN_BRACE)?;
-            while !self.sees(token::CLOSE_BRACE) {
+            while asked("impl_decl: another fn_decl", !self.sees(token::CLOSE_BRACE)) {
                 self.fn_decl(level + 1)?;
             }
         }
@@ -143,15 +159,17 @@ impl Parser<'_> {
 
     /// struct_decl = ':' IDENT type_params? '{' field* '}' ;
     fn struct_decl(&mut self, level: u32) -> Step {
+        took("decl = struct_decl");
         let index = self.open(row::STRUCT, level, self.sees(token::COLON))?;
         self.take(token::COLON)?;
         self.take(token::IDENT)?;
         if self.settings().edition.struct_takes_list() {
-            self.optional_name_list(Words::Declared, level + 1)?;
+            let optional = "struct_decl: type_params?";
+            self.optional_name_list(Words::Declared, level + 1, optional)?;
         }
         self.take(token::OPEN_BRACE)?;
-        while !self.sees(token::CLOSE_BRACE) {
-            self.field(level + 1)?;
+        while asked("struct_decl: another field", !self.sees(token::CLOSE_BRACE)) {
+            self.field(level + 1, "rule 5: field = type IDENT")?;
         }
         self.take(token::CLOSE_BRACE)?;
         self.close(index)
@@ -159,12 +177,16 @@ impl Parser<'_> {
 
     /// enum_decl = ':' '|' IDENT '{' enum_variant* '}' ;
     fn enum_decl(&mut self, level: u32) -> Step {
+        took("decl = enum_decl");
         let index = self.open(row::ENUM, level, self.sees(token::COLON))?;
         self.take(token::COLON)?;
         self.take(token::BAR)?;
         self.take(token::IDENT)?;
         self.take(token::OPEN_BRACE)?;
-        while !self.sees(token::CLOSE_BRACE) {
+        while asked(
+            "enum_decl: another enum_variant",
+            !self.sees(token::CLOSE_BRACE),
+        ) {
             self.enum_variant(level + 1)?;
         }
         self.take(token::CLOSE_BRACE)?;
@@ -174,10 +196,14 @@ impl Parser<'_> {
     /// enum_variant = IDENT type* ;
     /// Rule 4: the name is an IDENT not in N.
     fn enum_variant(&mut self, level: u32) -> Step {
-        let names_variant = self.sees(token::IDENT) && !self.sees_type_name();
+        let names_variant = asked("rule 4: an IDENT begins a variant", self.sees(token::IDENT))
+            && asked(
+                "rule 4: a variant's IDENT is not in N",
+                !self.sees_type_name(),
+            );
         let index = self.open(row::VARIANT, level, names_variant)?;
         self.take(token::IDENT)?;
-        while self.begins_enum_payload() {
+        while asked("enum_variant: another type", self.begins_enum_payload()) {
             self.type_expr(level + 1)?;
         }
         self.close(index)
@@ -187,21 +213,31 @@ impl Parser<'_> {
     /// in N."
     fn begins_enum_payload(&self) -> bool {
         if self.sees(token::IDENT) {
-            self.sees_type_name()
+            asked(
+                "rule 4: an IDENT after a variant is in N",
+                self.sees_type_name(),
+            )
         } else {
-            begins_type(self.kind())
+            asked(
+                "rule 4: another token after a variant begins a type",
+                begins_type(self.kind()),
+            )
         }
     }
 
     /// const_decl = ':' '~'? type IDENT literal ;
     fn const_decl(&mut self, level: u32) -> Step {
+        took("decl = const_decl");
         let index = self.open(row::CONSTANT, level, self.sees(token::COLON))?;
         self.take(token::COLON)?;
-        if self.sees(token::TILDE) {
+        if asked("const_decl: '~'?", self.sees(token::TILDE)) {
             self.take(token::TILDE)?;
         }
         self.type_expr(level + 1)?;
         self.take(token::IDENT)?;
+        if asked("const_decl: a literal", begins_literal(self.kind())) {
+            took_literal(self.kind());
+        }
         self.leaf(row::LITERAL, level + 1, begins_literal(self.kind()))?;
         self.close(index)
     }

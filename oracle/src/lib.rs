@@ -3,14 +3,19 @@
 
 pub mod answer;
 pub mod cases;
+pub mod coverage;
 pub mod declarations;
 pub mod desk;
 pub mod expressions;
+pub mod families;
+pub mod generate;
 pub mod kinds;
-pub mod lexical;
 pub mod names;
 pub mod parser;
+pub mod points;
 pub mod random;
+pub mod report;
+pub mod samples;
 pub mod scripts;
 pub mod settings;
 pub mod statements;

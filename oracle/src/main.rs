@@ -1,14 +1,15 @@
-//! The command line: the case files of the lexical layer and their coverage,
-//! the tokens of a file, and a file's answer as the desk program prints it.
+//! The command line: the case file and the output to it, what they cover, the
+//! tokens of a file, and a file's answer as the desk program prints it.
 
 use oracle::desk::{desk_output, line_of};
-use oracle::lexical;
+use oracle::families;
+use oracle::report;
 use oracle::settings::{SOURCE_LIMIT, TOKEN_WIDTH};
 use oracle::tokens::{tokenize, Tokenized};
 use std::io::Write;
 use std::process::ExitCode;
 
-const USAGE: &str = "usage: oracle lexical stdin|stdout|coverage
+const USAGE: &str = "usage: oracle cases stdin|stdout|coverage
        oracle tokens FILE
        oracle read FILE";
 
@@ -16,9 +17,9 @@ fn main() -> ExitCode {
     let arguments: Vec<String> = std::env::args().skip(1).collect();
     let words: Vec<&str> = arguments.iter().map(String::as_str).collect();
     let output = match words[..] {
-        ["lexical", "stdin"] => Ok(lexical::input_file()),
-        ["lexical", "stdout"] => Ok(lexical::output_file().into_bytes()),
-        ["lexical", "coverage"] => Ok(lexical::coverage_text().into_bytes()),
+        ["cases", "stdin"] => Ok(families::input_file()),
+        ["cases", "stdout"] => Ok(families::output_file().into_bytes()),
+        ["cases", "coverage"] => coverage_text(),
         ["tokens", file] => with_file(file, tokens_text),
         ["read", file] => with_file(file, desk_output),
         _ => Err(USAGE.to_string()),
@@ -33,6 +34,15 @@ fn main() -> ExitCode {
             eprintln!("{message}");
             ExitCode::from(2)
         }
+    }
+}
+
+/// The coverage of the cases, for which the reader must count.
+fn coverage_text() -> Result<Vec<u8>, String> {
+    if oracle::coverage::COUNTS {
+        Ok(report::coverage_text().into_bytes())
+    } else {
+        Err("build with --features coverage to count what the cases cover".to_string())
     }
 }
 

@@ -1,6 +1,7 @@
 //! The list of extra type names with its refusal 2, and the set N of the type
 //! names of a source.
 
+use crate::coverage::{asked, COUNTS};
 use crate::kinds::token;
 use crate::settings::{Edition, BASE, NAME_LIST_LIMIT};
 use crate::tokens::{token_at, Token};
@@ -60,8 +61,15 @@ impl TypeNames {
         for (index, this) in tokens.iter().enumerate() {
             match this.kind {
                 token::OPEN_BRACE => depth += 1,
-                token::CLOSE_BRACE => depth = depth.saturating_sub(1),
-                token::IDENT if depth == 0 && declares_type(tokens, index, edition) => {
+                token::CLOSE_BRACE => {
+                    asked("N: a `}` stands at depth zero", depth == 0);
+                    depth = depth.saturating_sub(1);
+                }
+                token::IDENT
+                    if (depth == 0 || COUNTS)
+                        && declares_type(tokens, index, edition)
+                        && asked("N: a declared name stands at depth zero", depth == 0) =>
+                {
                     names.insert(compared_form(this.text(source)));
                 }
                 _ => {}
@@ -91,10 +99,14 @@ fn declares_type(tokens: &[Token], index: usize, edition: Edition) -> bool {
         token::END
     };
     let after = kind_at(index + 1);
-    let before_body =
-        after == token::OPEN_BRACE || (after == token::OPEN_BRACKET && edition.struct_takes_list());
-    (one_before == token::COLON && before_body)
-        || (two_before == token::COLON && one_before == token::BAR)
+    let before_brace = asked("N: an IDENT is before `{`", after == token::OPEN_BRACE);
+    let before_bracket = asked("N: an IDENT is before `[`", after == token::OPEN_BRACKET);
+    let before_body = before_brace || (before_bracket && edition.struct_takes_list());
+    let after_bar = two_before == token::COLON && one_before == token::BAR;
+    asked(
+        "N: an IDENT is after `:` and before `{` or `[`",
+        one_before == token::COLON && before_body,
+    ) || asked("N: an IDENT is after `:` `|`", after_bar)
 }
 
 /// "Names compare with `::` read as `__`, so `a::b` equals `a__b`."

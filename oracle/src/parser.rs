@@ -2,6 +2,7 @@
 //! how rows are opened and closed. The productions themselves are in
 //! `declarations`, `statements`, `expressions` and `types`.
 
+use crate::coverage::{asked, past_the_limit};
 use crate::kinds::{row, token};
 use crate::names::TypeNames;
 use crate::settings::Settings;
@@ -113,6 +114,9 @@ impl Parser<'_> {
     /// Refusal 6 if the next token cannot begin the row called for; refusal 7
     /// if it can and the row would stand past the level limit.
     pub fn open(&mut self, kind: u32, level: u32, can_begin: bool) -> Result<usize, Stop> {
+        if level > self.settings.level_limit {
+            past_the_limit(kind, can_begin);
+        }
         if !can_begin {
             return Err(self.cannot_take());
         }
@@ -126,6 +130,12 @@ impl Parser<'_> {
             subtree: 0,
         });
         Ok(self.rows.len() - 1)
+    }
+
+    /// Refusal 6 where the next token begins none of the rows called for, of
+    /// which this is one.
+    pub fn no_row(&mut self, kind: u32, level: u32) -> Step {
+        self.open(kind, level, false).map(|_| ())
     }
 
     /// Gives an open row another kind, where later tokens decide it.
@@ -152,7 +162,7 @@ impl Parser<'_> {
     fn program(&mut self) -> Step {
         let level = 1;
         let index = self.open(row::PROGRAM, level, true)?;
-        while !self.sees(token::END) {
+        while asked("program: another decl", !self.sees(token::END)) {
             self.declaration(level + 1)?;
         }
         self.close(index)

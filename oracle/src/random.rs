@@ -10,12 +10,23 @@ pub struct Random {
 }
 
 impl Random {
-    /// A generator for one use, told apart from the others by its number.
+    /// A generator for one use of the fixed seed, told apart from the others by
+    /// its number.
     pub fn for_use(number: u64) -> Random {
         let mut seeded = Random {
             state: SEED.wrapping_add(number),
         };
         let state = seeded.number();
+        Random { state }
+    }
+
+    /// A generator for one use of any seed.
+    pub fn seeded(seed: u64, number: u64) -> Random {
+        let mut first = Random { state: seed };
+        let mut second = Random {
+            state: first.number().wrapping_add(number),
+        };
+        let state = second.number();
         Random { state }
     }
 
@@ -31,6 +42,11 @@ impl Random {
     /// A number from 0 to `limit` - 1.
     pub fn below(&mut self, limit: usize) -> usize {
         (self.number() % limit as u64) as usize
+    }
+
+    /// True once in `times` times.
+    pub fn once_in(&mut self, times: usize) -> bool {
+        self.below(times) == 0
     }
 
     /// One of the items.

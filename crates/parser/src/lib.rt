@@ -5,6 +5,7 @@ mod expressions;
 mod questions;
 pub mod row_kinds;
 mod steps;
+pub mod tree;
 mod types;
 mod words;
 

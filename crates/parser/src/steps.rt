@@ -1,13 +1,9 @@
 // The small steps that the readers are made of: each goes on from where a reading has come to, or passes a refusal on.
 use crate::Step;
+use crate::tree;
 ghost use mathlib.Core.Path.{_≡_};
-ghost use Prim.Native.Nat.{_<_, _^_};
 ghost use lib.Dec.{eqb};
 ghost use Rattle.parser.specs.Steps.{Small, Spans, nextKind, refusedAt, taken, takenIf, opened, reserved, closed};
-ghost use Rattle.parser.specs.Trees.{putRow};
-
-// The numbers in a row of the tree table.
-const WIDTH: usize = 4;
 
 // The refusals of document 01 that a reading can meet: a token that cannot be taken, and a row that would be too deep.
 pub(crate) const NO_PROGRAM: u32 = 6;
@@ -82,21 +78,6 @@ pub(crate) fn reserve_row(step: Step) -> Step
     }
 }
 
-// Writes a row of the tree, where the table has room for it.
-fn put_row(rows: &mut [u32], row: usize, kind: u32, first: usize, cover: usize, count: usize)
-    requires { ⌜ (first < 2 ^ 32) × (cover < 2 ^ 32) × (count < 2 ^ 32) ⌝ }
-    ensures { λ r. ⌜ now (rows .exit)
-        ≡ putRow row (record { kind = kind; first = first; cover = cover; count = count }) (now (rows .entry)) ⌝ }
-{
-    if row < rows.len() / WIDTH {
-        let at = row * WIDTH;
-        rows[at] = kind;
-        rows[at + 1] = first as u32;
-        rows[at + 2] = cover as u32;
-        rows[at + 3] = count as u32;
-    }
-}
-
 // Writes the row of this kind over all that lies between two steps, and answers the second.
 pub(crate) fn close_row(rows: &mut [u32], from: Step, to: Step, kind: u32) -> Step
     requires { ⌜ Small from ⌝ }
@@ -110,7 +91,7 @@ pub(crate) fn close_row(rows: &mut [u32], from: Step, to: Step, kind: u32) -> St
         Step::Read(at, row) => match to {
             Step::Refused(_, _) => to,
             Step::Read(next, last) => {
-                put_row(rows, row, kind, at, next - at, last - row);
+                tree::put_row(rows, row, kind, at, next - at, last - row);
                 to
             }
         },

@@ -1,14 +1,16 @@
-// The cases: a header of four numbers `S R N T`, then S bytes that R times over are the source, then N bytes of names,
-// then one byte 10. T is the length of the token table.
+// The cases: a header of five numbers `S R N T W`, then S bytes that R times over are the source, then N bytes of names, then one
+// byte 10. T and W are the lengths of the token table and of the tree table.
 ghost use Prim.Native.Nat.{_≤_};
+ghost use lib.ListN.{length};
 
-// Where a case's parts stand, and the length of its table.
+// Where a case's parts stand, how often its piece stands in the source, and the lengths of its tables.
 pub struct Case {
     pub piece: usize,
-    pub times: usize,
     pub names: usize,
     pub end: usize,
-    pub room: usize,
+    pub times: usize,
+    pub tokens: usize,
+    pub tree: usize,
 }
 
 struct Number {
@@ -18,7 +20,10 @@ struct Number {
 
 // The decimal number at `at`, and the place after the byte that ends it. A number that is too large ends the text.
 fn number_at(text: &[u8], at: usize) -> Number
+    requires { ⌜ at ≤ length (now text) ⌝ }
     ensures { λ r. ⌜ r .value ≤ 20000255 ⌝ }
+    ensures { λ r. ⌜ at ≤ r .next ⌝ }
+    ensures { λ r. ⌜ r .next ≤ length (now (text .entry)) ⌝ }
 {
     let mut value: usize = 0;
     let mut i = at;
@@ -39,49 +44,34 @@ fn number_at(text: &[u8], at: usize) -> Number
     Number { value, next: i }
 }
 
-// The case whose header stands at `at`.
-pub fn case_at(text: &[u8], at: usize) -> Case {
+// The case whose header stands at `at`. Where there is none, its end is no place of the text.
+pub fn case_at(text: &[u8], at: usize) -> Case
+    requires { ⌜ at ≤ length (now text) ⌝ }
+    ensures { λ r. ⌜ at ≤ r .piece ⌝ }
+    ensures { λ r. ⌜ r .piece ≤ r .names ⌝ }
+    ensures { λ r. ⌜ r .names ≤ r .end ⌝ }
+{
     let size = number_at(text, at);
     let times = number_at(text, size.next);
     let names = number_at(text, times.next);
-    let room = number_at(text, names.next);
-    let piece = room.next;
-    if piece <= text.len() {
-        return Case {
-            piece,
-            times: times.value,
-            names: piece + size.value,
-            end: piece + size.value + names.value,
-            room: room.value,
-        };
-    }
+    let tokens = number_at(text, names.next);
+    let tree = number_at(text, tokens.next);
+    let piece = tree.next;
     Case {
-        piece: 1,
-        times: 0,
-        names: 0,
-        end: 0,
-        room: 0,
-    }
-}
-
-// What number `i` of a table holds before a case is run.
-pub fn pattern(i: usize) -> u32 {
-    if i < 1000000 {
-        return (900000 + i) as u32;
-    }
-    0
-}
-
-pub fn fill_pattern(rows: &mut [u32]) {
-    let mut i = 0;
-    while i < rows.len() {
-        rows[i] = pattern(i);
-        i += 1;
+        piece,
+        names: piece + size.value,
+        end: piece + size.value + names.value,
+        times: times.value,
+        tokens: tokens.value,
+        tree: tree.value,
     }
 }
 
 // Writes a piece once from `at` on, as much of it as fits, and answers where it ends.
-fn copy_into(source: &mut [u8], at: usize, piece: &[u8]) -> usize {
+fn copy_into(source: &mut [u8], at: usize, piece: &[u8]) -> usize
+    requires { ⌜ at ≤ length (now source) ⌝ }
+    ensures { λ r. ⌜ r ≤ length (now (source .entry)) ⌝ }
+{
     let mut i = 0;
     let mut to = at;
     while i < piece.len() {
@@ -96,7 +86,9 @@ fn copy_into(source: &mut [u8], at: usize, piece: &[u8]) -> usize {
 }
 
 // Writes a piece so many times, as much of it as fits, and answers where it ends.
-pub fn repeat_into(source: &mut [u8], piece: &[u8], times: usize) -> usize {
+pub fn repeat_into(source: &mut [u8], piece: &[u8], times: usize) -> usize
+    ensures { λ r. ⌜ r ≤ length (now (source .entry)) ⌝ }
+{
     let mut at = 0;
     let mut left = times;
     while 0 < left {

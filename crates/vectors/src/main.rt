@@ -1,73 +1,115 @@
-// Runs the stored cases of standard input through the tokeniser and prints each answer with the whole token table.
+// Runs the stored cases of standard input through `nurl::read` and prints each answer with both tables whole.
 mod input;
 mod output;
+mod table;
 
-use lexer::Scanned;
-use typenames::Checked;
+use nurl::Answer;
+use table::Layout;
 ghost use mathlib.Core.Path.{_≡_};
+ghost use Prim.Native.Nat.{_<_};
 ghost use lib.ListN.{length};
 
-// The tokens of a source, or the refusal, in document 01's order: 1, 2, then 3 or 4, then 5.
-fn answer(source: &[u8], names: &[u8], rows: &mut [u32]) -> Scanned {
-    if source.len() <= lexer::SOURCE_LIMIT {
-        let found = typenames::check_names(names);
-        if let Checked::Refused(number, place) = found {
-            return Scanned::Refused(number, place);
-        }
-    }
-    lexer::tokenize(source, rows)
+// The numbers in a row of the tree table: kind, first token, tokens covered, rows in the subtree.
+const TREE_WIDTH: usize = 4;
+
+// The two tables: the numbers in a row, and the first number before a case.
+const TOKENS: Layout = Layout {
+    width: lexer::WIDTH,
+    base: 900000,
+};
+
+const TREE: Layout = Layout {
+    width: TREE_WIDTH,
+    base: 700000,
+};
+
+// Where the next case stands, and the place reached in the output.
+struct Step {
+    next: usize,
+    to: usize,
+}
+
+// Prints an answer and the tables as they are after it.
+fn print(out: &mut [u8], to: usize, answer: Answer, tokens: &[u32], tree: &[u32]) -> usize {
+    let mut at = output::put_answer(out, to, answer);
+    at = table::put_table(out, at, tokens, TOKENS);
+    at = output::put_text(out, at, b"tree\n");
+    table::put_table(out, at, tree, TREE)
 }
 
 // Runs one case and prints what came of it.
-fn run(source: &[u8], names: &[u8], rows: &mut [u32]) {
-    input::fill_pattern(rows);
-    output::print_answer(answer(source, names, rows));
-    output::print_table(rows);
+fn run(
+    source: &[u8],
+    names: &[u8],
+    tokens: &mut [u32],
+    tree: &mut [u32],
+    out: &mut [u8],
+    to: usize,
+) -> usize {
+    table::fill(tokens, TOKENS);
+    table::fill(tree, TREE);
+    let answer = nurl::read(source, names, tokens, tree);
+    print(out, to, answer, tokens, tree)
 }
 
-// Runs the case at `at` and answers where the next one stands.
-fn run_case(text: &[u8], at: usize, source: &mut [u8], rows: &mut [u32]) -> usize {
+// Runs the case at `at`. What is no case ends the text.
+fn run_case(
+    text: &[u8],
+    at: usize,
+    source: &mut [u8],
+    tokens: &mut [u32],
+    tree: &mut [u32],
+    out: &mut [u8],
+    to: usize,
+) -> Step
+    requires { ⌜ at < length (now text) ⌝ }
+    ensures { λ r. ⌜ at < r .next ⌝ }
+{
     let case = input::case_at(text, at);
     let piece = case.piece;
     let names = case.names;
     let end = case.end;
-    let room = case.room;
-    if piece <= names {
-        if names <= end {
-            if end <= text.len() {
+    let t = case.tokens;
+    let w = case.tree;
+    if end < text.len() {
+        if t <= tokens.len() {
+            if w <= tree.len() {
                 let len = input::repeat_into(source, &text[piece..names], case.times);
-                if len <= source.len() {
-                    if room <= rows.len() {
-                        run(&source[..len], &text[names..end], &mut rows[..room]);
-                        return end;
-                    }
-                }
+                let to = run(
+                    &source[..len],
+                    &text[names..end],
+                    &mut tokens[..t],
+                    &mut tree[..w],
+                    out,
+                    to,
+                );
+                return Step { next: end + 1, to };
             }
         }
     }
-    text.len()
-}
-
-// Runs all cases of a text; each ends with one byte 10.
-fn run_all(text: &[u8], source: &mut [u8], rows: &mut [u32]) {
-    let mut at = 0;
-    while at < text.len() {
-        let end = run_case(text, at, source, rows);
-        if end <= at {
-            return;
-        }
-        if text.len() <= end {
-            return;
-        }
-        at = end + 1;
+    Step {
+        next: text.len(),
+        to,
     }
 }
 
-// Room for all cases, for the longest source of a case, and for the largest table.
-fn text_buffer() -> [u8; 600000]
-    ensures { λ r. ⌜ 600000 ≡ length r ⌝ }
+// Runs all cases of a text.
+fn run_all(text: &[u8], source: &mut [u8], tokens: &mut [u32], tree: &mut [u32], out: &mut [u8]) {
+    let mut at = 0;
+    let mut to = 0;
+    while at < text.len() {
+        let step = run_case(text, at, source, tokens, tree, out, to);
+        at = step.next;
+        to = step.to;
+    }
+    output::flush(out, to);
+}
+
+// Room for all cases, for the longest source of a case, and for the largest tables.
+fn text_buffer() -> [u8; 1400000]
+    ensures { λ r. ⌜ 1400000 ≡ length r ⌝ }
 {
-    [0; 600000]
+    [0; 1400000]
 }
 
 fn source_buffer() -> [u8; 1048577]
@@ -76,16 +118,24 @@ fn source_buffer() -> [u8; 1048577]
     [0; 1048577]
 }
 
-fn rows_buffer() -> [u32; 9000]
+fn tokens_buffer() -> [u32; 9000]
     ensures { λ r. ⌜ 9000 ≡ length r ⌝ }
 {
     [0; 9000]
 }
 
+fn tree_buffer() -> [u32; 12000]
+    ensures { λ r. ⌜ 12000 ≡ length r ⌝ }
+{
+    [0; 12000]
+}
+
 fn main() {
     let mut text = text_buffer();
     let mut source = source_buffer();
-    let mut rows = rows_buffer();
+    let mut tokens = tokens_buffer();
+    let mut tree = tree_buffer();
+    let mut out = io::large_buffer();
     let n = io::read_full(0, &mut text);
-    run_all(&text[..n], &mut source, &mut rows);
+    run_all(&text[..n], &mut source, &mut tokens, &mut tree, &mut out);
 }

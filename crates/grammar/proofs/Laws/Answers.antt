@@ -65,6 +65,13 @@ module _ (l : Language) (source names : List ℕ) (limit : ℕ) (tokens rows : L
   verdict-read ts r room o h =
       verdict-good (r .admitted) (clean ts) (r .scans) ∙ rw (le-leb (length ts) (tokenRoom tokens) room, h)
 
+  -- where the tokens are readable and have room, the reading says the rest
+  pub read-result : (ts : List Token) → Readable l source names ts → length ts ≤ tokenRoom tokens
+      → answered l limit source names tokens rows
+      ≡ result (judged (treeRoom rows) ts (readTokens l limit source names ts)) tokens rows
+  unfolding answered
+  read-result ts r room = rw (verdict-read ts r room (readTokens l limit source names ts) refl)
+
   -- the tokens of a source are one list
   readable-same : (ts us : List Token) → Readable l source names ts → Readable l source names us → ts ≡ us
   readable-same ts us r k = let one = r .scans in let two = k .scans in cc

@@ -4,7 +4,7 @@ use Prim.Native.Nat.{ℕ, zero, suc, _+_, _*_, _<_, _≤_}
 use mathlib.Core.Path.{_≡_, refl, _∙_, ap}
 use mathlib.Core.List.{List, [], _∷_, _++_, append-assoc}
 use native.Mathlib.Omega.{arith}
-use lib.ListN.{length, drop, getD, length-append, length-drop, List·getD-append, List·getD-eq-default}
+use lib.ListN.{length, take, drop, getD, length-append, length-drop, List·getD-append, List·getD-eq-default}
 use lib.Seq.{sets, sets-eq, take-at, drop-drop, drop-append-add}
 use Rattle.lexer.specs.Tokens.{Token}
 use Rattle.lexer.specs.Table.{tokenWidth, tokenRoom, tokenRow, tokenRows, filled, rowsOf, noToken, rowAt}
@@ -104,3 +104,13 @@ pub filled-row : (ts : List Token) (table : List ℕ) (row : ℕ) → row < leng
 unfolding rowAt filled
 filled-row ts table row h =
     rw (rows-of-rows ts (drop (length ts * tokenWidth) table)) (List·getD-append ts _ noToken row h)
+
+own-rows : (ts : List Token) → rowsOf (tokenRows ts) ≡ ts
+unfolding rowsOf tokenRows
+own-rows [] = refl
+own-rows (t ∷ ts) = ap (λ (us : List Token). t ∷ us) (own-rows ts)
+
+-- as many rows as there are tokens are the tokens' own, and nothing else
+pub filled-rows : (ts : List Token) (table : List ℕ) → rowsOf (take (length ts * tokenWidth) (filled ts table)) ≡ ts
+unfolding filled
+filled-rows ts table = rw (take-at (tokenRows ts) (drop (length ts * tokenWidth) table) (length ts * tokenWidth) (rows-length ts)) (own-rows ts)

@@ -1,16 +1,17 @@
 -- Rows put into a tree table: its length stays, more rows go on where the first end, and a parent's row may be put after its
--- children's. Assumes nothing.
+-- children's; rows that have room, put from the first row on, are the table's first rows. Assumes nothing.
 use Prim.Native.Nat.{ℕ, suc, _+_, _*_, _/_, _<_, _≤_}
 use mathlib.Core.Path.{_≡_, refl, _∙_, ap}
 use mathlib.Core.Bool.{Bool, true, false}
 use mathlib.Core.List.{List, [], _∷_, _++_}
 use native.Mathlib.Omega.{arith}
 use lib.Dec.{ltb}
-use lib.ListN.{length, set}
-use lib.Seq.{sets, length-sets, set-comm}
+use borrow.Author.Tests.{lt-ltb}
+use lib.ListN.{length, drop, set}
+use lib.Seq.{sets, length-sets, sets-eq, set-comm}
 use Rattle.lexer.specs.Tests.{pick}
 use Rattle.grammar.specs.Rows.{Row}
-use Rattle.grammar.specs.TreeTable.{treeWidth, treeRoom, treeRow}
+use Rattle.grammar.specs.TreeTable.{treeWidth, treeRoom, treeRow, treeRows, placed}
 use Rattle.parser.specs.Trees.{putRow, put}
 
 -- numbers written at different places may be written in any order
@@ -74,3 +75,33 @@ put-putRow r q x (y ∷ ys) table h =
 pub put-parent : (r : ℕ) (x : Row) (xs : List Row) (table : List ℕ) → put r (x ∷ xs) table ≡ putRow r x (put (suc r) xs table)
 unfolding put
 put-parent r x xs table = put-putRow r (suc r) x xs table (omega arith)
+
+-- numbers written one after the other are written at once
+sets-append : (table : List ℕ) (i : ℕ) (vs ws : List ℕ) → sets (sets table i vs) (i + length vs) ws ≡ sets table i (vs ++ ws)
+sets-append table i [] ws = let e : i + 0 ≡ i = omega arith in rw e
+sets-append table i (v ∷ vs) ws =
+    let e : i + suc (length vs) ≡ suc i + length vs = omega arith in
+    rw e (sets-append (set table i v) (suc i) vs ws)
+
+pub length-treeRows : (rs : List Row) → length (treeRows rs) ≡ length rs * treeWidth
+unfolding treeRows
+length-treeRows [] = refl
+length-treeRows (r ∷ rs) = let e = length-treeRows rs in omega arith
+
+put-sets : (r : ℕ) (xs : List Row) (table : List ℕ) → r + length xs ≤ treeRoom table
+    → put r xs table ≡ sets table (r * treeWidth) (treeRows xs)
+unfolding put treeRows putRow
+put-sets r [] table room = refl
+put-sets r (x ∷ xs) table room =
+    let kept : treeRoom (sets table (r * treeWidth) (treeRow x)) ≡ treeRoom table
+    = ap (λ (n : ℕ). n / treeWidth) (length-sets table (r * treeWidth) (treeRow x)) in
+    let next : suc r * treeWidth ≡ r * treeWidth + length (treeRow x) = omega arith in
+    rw (lt-ltb r (treeRoom table) (omega arith), put-sets (suc r) xs (sets table (r * treeWidth) (treeRow x)) (omega arith), next)
+    (sets-append table (r * treeWidth) (treeRow x) (treeRows xs))
+
+pub put-placed : (rs : List Row) (table : List ℕ) → length rs ≤ treeRoom table → put 0 rs table ≡ placed rs table
+unfolding placed
+put-placed rs table room =
+    let l = length-treeRows rs in
+    put-sets 0 rs table (omega arith) ∙ sets-eq (treeRows rs) table 0 (omega arith)
+    ∙ ap (λ (n : ℕ). treeRows rs ++ drop n table) (let sum : 0 + length (treeRows rs) ≡ length rs * treeWidth = omega arith in sum)

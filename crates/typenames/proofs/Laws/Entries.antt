@@ -1,5 +1,5 @@
--- The entries of a name list from a place on: the first of them, and the answer by it; and that a refusal is number 2. Assumes
--- nothing.
+-- The entries of a name list from a place on: the first of them, and the answer by it; that a refusal is number 2, and where its
+-- place is. Assumes nothing.
 use Prim.Native.Nat.{ℕ, suc, _+_, _<_, _≤_}
 use mathlib.Core.Path.{_≡_, refl, sym, _∙_, ap}
 use mathlib.Core.Bool.{Bool, true, false}
@@ -139,3 +139,54 @@ module _ (e : Edition) where
       cases : (t : Bool) → pick t (Refused 2 0) (firstBad e 0 (entries list)) ≡ Refused number place → number ≡ 2
       cases true h = cc
       cases false h = bad-two 0 (entries list) number place h
+
+-- the bytes of some entries, each with the byte 10 after it
+abbrev extent : List (List ℕ) → ℕ
+extent [] = 0
+extent (w ∷ ws) = length w + 1 + extent ws
+
+extent-push-by : (b : ℕ) (w : List ℕ) (ws vs : List (List ℕ)) → vs ≡ w ∷ ws → extent (push b vs) ≡ suc (extent vs)
+unfolding push
+extent-push-by b w ws vs h = rw h (omega arith)
+
+extent-split : (s : List ℕ) → extent (split s) ≡ length s + 1
+unfolding split
+extent-split [] = refl
+extent-split (b ∷ s) = cases (eqb b 10) (extent-split s) (split-first s)
+  where
+    cases : (t : Bool) → extent (split s) ≡ length s + 1 → (ws : List (List ℕ)) × (split s ≡ take (run isInLine s) s ∷ ws)
+        → extent (pick t ([] ∷ split s) (push b (split s))) ≡ suc (length s) + 1
+    cases true below first = omega arith
+    cases false below first = let pushed = extent-push-by b _ (first .0) (split s) (first .1) in omega arith
+
+-- the place of a refusal is in the list or at its end
+module _ (e : Edition) where
+  bad-place : (at : ℕ) (ws : List (List ℕ)) (number place : ℕ) → firstBad e at ws ≡ Refused number place → place < at + extent ws
+  unfolding firstBad
+  bad-place at [] number place h = let z : _≡_ {A = ℕ} 0 1 = cc in absurd (omega arith)
+  bad-place at (w ∷ ws) number place h = cases (isName e w) (bad-place (at + length w + 1) ws number place) h
+    where
+      cases : (t : Bool) → (firstBad e (at + length w + 1) ws ≡ Refused number place → place < at + length w + 1 + extent ws)
+          → pick t (firstBad e (at + length w + 1) ws) (Refused 2 at) ≡ Refused number place → place < at + (length w + 1 + extent ws)
+      cases true later h = let below = later h in omega arith
+      cases false later h = let here : at ≡ place = cc in omega arith
+
+  entries-place : (list : List ℕ) (number place : ℕ) → firstBad e 0 (entries list) ≡ Refused number place → place ≤ length list
+  unfolding entries firstBad
+  entries-place [] number place h = let z : _≡_ {A = ℕ} 0 1 = cc in absurd (omega arith)
+  entries-place (b ∷ s) number place h =
+      let below = bad-place 0 (split (b ∷ s)) number place h in
+      let all = extent-split (b ∷ s) in
+      omega arith
+
+  pub checked-place : (list : List ℕ) (number place : ℕ) → checked e list ≡ Refused number place → place ≤ nameLimit
+  unfolding checked
+  checked-place list number place h = cases (ltb nameLimit (length list)) refl h
+    where
+      cases : (t : Bool) → ltb nameLimit (length list) ≡ t
+          → pick t (Refused 2 0) (firstBad e 0 (entries list)) ≡ Refused number place → place ≤ nameLimit
+      cases true q h = let here : 0 ≡ place = cc in omega arith
+      cases false q h =
+          let inside = entries-place list number place h in
+          let short = ltb-false nameLimit (length list) q in
+          omega arith

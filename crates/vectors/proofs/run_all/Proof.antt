@@ -7,10 +7,14 @@ use Rattle.vectors.proofs.run_all.Statement.{statement}
 use Rattle.vectors.proofs.run_all.Tie as tie
 
 abbrev Inv-loop : tie.InvT-loop
-Inv-loop text source₀ rows₀ at₀ source rows at = (length source ≡ length source₀) × (length rows ≡ length rows₀)
+Inv-loop text source₀ tokens₀ tree₀ out₀ at₀ to₀ source tokens tree out at to =
+    (length source ≡ length source₀)
+    × (length tokens ≡ length tokens₀)
+    × (length tree ≡ length tree₀)
+    × (length out ≡ length out₀)
 
 abbrev μ-loop : tie.MeasureT-loop
-μ-loop text source₀ rows₀ at₀ source rows at = length text - at
+μ-loop text source₀ tokens₀ tree₀ out₀ at₀ to₀ source tokens tree out at to = length text - at
 
 loop-holds : tie.Need-loop-holds Inv-loop μ-loop
 loop-holds c = search needs
@@ -18,14 +22,20 @@ loop-holds c = search needs
 run-case-requires : tie.Need-run-case-requires Inv-loop μ-loop
 run-case-requires c κs = search needs
 
+loop-less : tie.Need-loop-less Inv-loop μ-loop
+loop-less c = search needs
+
+loop-again : tie.Need-loop-again Inv-loop μ-loop
+loop-again c = search needs
+
+flush-requires : tie.Need-flush-requires Inv-loop μ-loop
+flush-requires c κs = search needs
+
 same-length : tie.Need-same-length Inv-loop μ-loop
 same-length c = search needs
 
 same-length-2 : tie.Need-same-length-2 Inv-loop μ-loop
 same-length-2 c = search needs
-
-returns : tie.Need-returns Inv-loop μ-loop
-returns c = search needs
 
 same-length-3 : tie.Need-same-length-3 Inv-loop μ-loop
 same-length-3 c = search needs
@@ -33,26 +43,8 @@ same-length-3 c = search needs
 same-length-4 : tie.Need-same-length-4 Inv-loop μ-loop
 same-length-4 c = search needs
 
-returns-2 : tie.Need-returns-2 Inv-loop μ-loop
-returns-2 c = search needs
-
-add-at : tie.Need-add-at Inv-loop μ-loop
-add-at c = search needs
-
-loop-less : tie.Need-loop-less Inv-loop μ-loop
-loop-less c = search needs
-
-loop-again : tie.Need-loop-again Inv-loop μ-loop
-loop-again c = search needs
-
-same-length-5 : tie.Need-same-length-5 Inv-loop μ-loop
-same-length-5 c = search needs
-
-same-length-6 : tie.Need-same-length-6 Inv-loop μ-loop
-same-length-6 c = search needs
-
-returns-3 : tie.Need-returns-3 Inv-loop μ-loop
-returns-3 c = search needs
+returns : tie.Need-returns Inv-loop μ-loop
+returns c = search needs
 
 pub run-all-spec : {M : Type 1} → statement M
 run-all-spec =
@@ -62,15 +54,11 @@ run-all-spec =
     μ-loop
     loop-holds
     run-case-requires
-    same-length
-    same-length-2
-    returns
-    same-length-3
-    same-length-4
-    returns-2
-    add-at
     loop-less
     loop-again
-    same-length-5
-    same-length-6
-    returns-3)
+    flush-requires
+    same-length
+    same-length-2
+    same-length-3
+    same-length-4
+    returns)

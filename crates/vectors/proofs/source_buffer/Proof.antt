@@ -1,6 +1,6 @@
 -- `vectors::source_buffer` meets its contract: the length of a repeat, with nothing computed. Assumes nothing.
-use mathlib.Core.Path.{sym}
 use Prim.Native.Nat.{ℕ}
+use mathlib.Core.Path.{sym}
 use lib.ListN.{length-replicate}
 use Rattle.vectors.proofs.source_buffer.Statement.{statement}
 use Rattle.vectors.proofs.source_buffer.Tie as tie

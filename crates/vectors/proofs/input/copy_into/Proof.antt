@@ -1,5 +1,5 @@
--- `vectors::input::copy_into` is safe and ends. Assumes nothing.
-use Prim.Native.Nat.{_-_}
+-- `vectors::input::copy_into` meets its contract. Assumes nothing.
+use Prim.Native.Nat.{_-_, _≤_}
 use mathlib.Core.Path.{_≡_}
 use lib.ListN.{length, length-set}
 use borrow.Author.Needs.{needs}
@@ -8,7 +8,7 @@ use Rattle.vectors.proofs.input.copy_into.Statement.{statement}
 use Rattle.vectors.proofs.input.copy_into.Tie as tie
 
 abbrev Inv-loop : tie.InvT-loop
-Inv-loop source₀ at piece i₀ to₀ source i to = length source ≡ length source₀
+Inv-loop source₀ at piece i₀ to₀ source i to = (length source ≡ length source₀) × (to ≤ length source)
 
 abbrev μ-loop : tie.MeasureT-loop
 μ-loop source₀ at piece i₀ to₀ source i to = length piece - i

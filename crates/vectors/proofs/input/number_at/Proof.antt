@@ -7,7 +7,7 @@ use Rattle.vectors.proofs.input.number_at.Statement.{statement}
 use Rattle.vectors.proofs.input.number_at.Tie as tie
 
 abbrev Inv-loop : tie.InvT-loop
-Inv-loop text at value₀ i₀ value i = value ≤ 20000255
+Inv-loop text at value₀ i₀ value i = (value ≤ 20000255) × (at ≤ i) × (i ≤ length text)
 
 abbrev μ-loop : tie.MeasureT-loop
 μ-loop text at value₀ i₀ value i = length text - i

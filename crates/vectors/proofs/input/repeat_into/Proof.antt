@@ -1,4 +1,5 @@
--- `vectors::input::repeat_into` is safe and ends. Assumes nothing.
+-- `vectors::input::repeat_into` meets its contract. Assumes nothing.
+use Prim.Native.Nat.{_≤_}
 use mathlib.Core.Path.{_≡_}
 use lib.ListN.{length}
 use borrow.Author.Needs.{needs}
@@ -6,7 +7,7 @@ use Rattle.vectors.proofs.input.repeat_into.Statement.{statement}
 use Rattle.vectors.proofs.input.repeat_into.Tie as tie
 
 abbrev Inv-loop : tie.InvT-loop
-Inv-loop source₀ piece times at₀ left₀ source at left = length source ≡ length source₀
+Inv-loop source₀ piece times at₀ left₀ source at left = (length source ≡ length source₀) × (at ≤ length source)
 
 abbrev μ-loop : tie.MeasureT-loop
 μ-loop source₀ piece times at₀ left₀ source at left = left

@@ -1,0 +1,208 @@
+-- The answer from what is found in order: the source's length, its names, its tokens and their reading. Assumes nothing.
+use Prim.Native.Nat.{ℕ, _*_, _<_, _≤_}
+use mathlib.Core.Path.{_≡_, refl, sym, _∙_, ap}
+use mathlib.Core.Bool.{Bool, true, false}
+use mathlib.Core.List.{List, [], _∷_, _++_}
+use mathlib.Core.Logic.{_⊎_, inl, inr}
+use native.Mathlib.Omega.{arith}
+use lib.Dec.{leb}
+use lib.ListN.{length, take}
+use borrow.Author.Tests.{leb-true, leb-false, le-ltb}
+use Rattle.lexer.specs.Tests.{pick}
+use Rattle.lexer.specs.Editions.{edition17}
+use Rattle.lexer.specs.Tokens.{Token, Scan, clean, fault, scan}
+use Rattle.lexer.specs.Table.{sourceLimit, tokenWidth, tokenRoom, filled, rowsOf, scanned, counted, withRoom, tokensOf, afterAnswer}
+use Rattle.lexer.specs.Table.{tokenized, tableAfter}
+use Rattle.lexer.specs.declared.Scanned.the-variants.{Tokens}
+use Rattle.lexer.specs.declared.Scanned.{Scanned}
+use Rattle.lexer.proofs.Laws.Rows.{filled-length, filled-rows}
+use Rattle.lexer.proofs.Laws.Counts.{spelled17}
+use Rattle.lexer.proofs.Laws.Places.{fault-placed}
+use Rattle.typenames.specs.NameList.{checked}
+use Rattle.typenames.specs.declared.Checked.{Checked}
+use Rattle.typenames.specs.declared.Checked.the-variants.{Good}
+use Rattle.typenames.proofs.Laws.Entries.{checked-two}
+use Rattle.grammar.specs.Rows.{Row}
+use Rattle.grammar.specs.Reading.{Outcome, ok, stuck, deep, spent}
+use Rattle.grammar.specs.Languages.{language17}
+use Rattle.grammar.specs.Sources.{readTokens}
+use Rattle.grammar.specs.TreeTable.{treeRoom}
+use Rattle.grammar.specs.Answers.{levelLimit, Verdict, early, late, accept, judged, Result, result, answer17}
+use Rattle.grammar.specs.Demands.{Admitted, Readable, too-long, bad-names, bad-byte, open-string, few-token-rows, Demands}
+use Rattle.grammar.specs.declared.Answer.{Answer}
+use Rattle.grammar.specs.declared.Answer.the-variants.{Accepted, Refused}
+use Rattle.grammar.proofs.Laws.Answers.{read-result}
+use Rattle.grammar.proofs.Laws.Nurl17.{fit17, answer17-meets}
+use Rattle.nurl.specs.Results.{treeResult}
+
+-- a result is the answer, and so has the demands
+pub meets : (source names tokens rows : List ℕ) (r : Result) → r ≡ answer17 source names tokens rows
+    → (r ≡ answer17 source names tokens rows) × (Demands language17 source names levelLimit tokens rows r)
+meets source names tokens rows r h = (h, rw h (answer17-meets source names tokens rows))
+
+-- what a reading of the tokens says does not depend on what else the token table holds
+rest-same : (ts : List Token) (lent tokens rows : List ℕ) (o : Outcome)
+    → _≡_ {A = Result} (record {
+      answer = result (judged (treeRoom rows) ts o) lent rows .answer;
+      tokens = filled ts tokens;
+      rows = result (judged (treeRoom rows) ts o) lent rows .rows;
+    })
+    (result (judged (treeRoom rows) ts o) tokens rows)
+unfolding result judged
+rest-same ts lent tokens rows (stuck i) = refl
+rest-same ts lent tokens rows (deep i) = refl
+rest-same ts lent tokens rows spent = refl
+rest-same ts lent tokens rows (ok j rs said) = cases (leb (length rs) (treeRoom rows))
+  where
+    cases : (t : Bool) → _≡_ {A = Result} (record {
+      answer = result (pick t (accept ts rs) (late 8 (length rs) ts)) lent rows .answer;
+      tokens = filled ts tokens;
+      rows = result (pick t (accept ts rs) (late 8 (length rs) ts)) lent rows .rows;
+    })
+        (result (pick t (accept ts rs) (late 8 (length rs) ts)) tokens rows)
+    cases true = refl
+    cases false = refl
+
+-- as many rows of a filled table as there are tokens are the tokens
+own-rows : (ts : List Token) (count : ℕ) (after tokens : List ℕ) → after ≡ filled ts tokens → count ≡ length ts
+    → rowsOf (take (count * tokenWidth) after) ≡ ts
+own-rows ts count after tokens table n = rw (table, n) (filled-rows ts tokens)
+
+module _ (source names tokens rows : List ℕ) where
+  -- both tables as they were, and a refusal
+  abbrev unchanged : ℕ → ℕ → Result
+  unchanged number place = record { answer = Refused number place; tokens = tokens; rows = rows }
+
+  -- No. 1 and 2
+  pub refused-long : sourceLimit < length source → unchanged 1 0 ≡ answer17 source names tokens rows
+  refused-long long = sym (answer17-meets source names tokens rows .demand1 .refusal 1 0 tokens rows (too-long long))
+
+  pub refused-names : (number place : ℕ) → length source ≤ sourceLimit → checked edition17 names ≡ Checked.Refused number place
+      → unchanged number place ≡ answer17 source names tokens rows
+  refused-names number place within h =
+      let two = checked-two edition17 names number place h in
+      rw two (sym (answer17-meets source names tokens rows .demand1 .refusal 2 place tokens rows (bad-names within (rw two at h))))
+
+  -- No. 3 to 5
+  module _ (within : length source ≤ sourceLimit) (good : checked edition17 names ≡ Good) where
+    admitted : Admitted language17 source names
+    admitted = record { within = within; good = good }
+
+    refused-fault : {A B : Type 0} (number place : ℕ) → scan edition17 source ≡ fault number place
+        → ((number ≡ 3) × A) ⊎ ((number ≡ 4) × B) → unchanged number place ≡ answer17 source names tokens rows
+    refused-fault number place h (inl (three, b)) =
+        rw three
+        (sym (answer17-meets source names tokens rows .demand1 .refusal 3 place tokens rows (bad-byte admitted (rw three at h))))
+    refused-fault number place h (inr (four, b)) =
+        rw four
+        (sym (answer17-meets source names tokens rows .demand1 .refusal 4 place tokens rows (open-string admitted (rw four at h))))
+
+    refused-scan : (s : Scan) → scan edition17 source ≡ s → (number place : ℕ)
+        → withRoom (tokenRoom tokens) (scanned s) ≡ Scanned.Refused number place → unchanged number place ≡ answer17 source names tokens rows
+    unfolding withRoom scanned
+    refused-scan (fault n p) h number place t =
+        let same : n ≡ number = cc in
+        let at : p ≡ place = cc in
+        rw (← same, ← at) (refused-fault n p h (fault-placed edition17 spelled17 source n p h .reason))
+    refused-scan (clean ts) h number place t = cases (leb (length ts) (tokenRoom tokens)) refl t
+      where
+        cases : (b : Bool) → leb (length ts) (tokenRoom tokens) ≡ b
+            → pick b (Tokens (length ts)) (Scanned.Refused 5 (length ts)) ≡ Scanned.Refused number place
+            → unchanged number place ≡ answer17 source names tokens rows
+        cases true q t = let z : _≡_ {A = ℕ} 0 1 = cc in absurd (omega arith)
+        cases false q t =
+            let five : 5 ≡ number = cc in
+            let at : length ts ≡ place = cc in
+            rw (← five, ← at)
+            (sym (answer17-meets source names tokens rows .demand1 .refusal 5 (length ts) tokens rows
+            (few-token-rows (record { admitted = admitted; scans = h }) (leb-false _ _ q))))
+
+    tokens-by : (t : Scanned) → tokenized edition17 source tokens ≡ t → withRoom (tokenRoom tokens) (scanned (scan edition17 source)) ≡ t
+    unfolding tokenized counted
+    tokens-by t h = rw (le-ltb sourceLimit (length source) within) at h
+
+    kept-tokens : (number place : ℕ) → tokenized edition17 source tokens ≡ Scanned.Refused number place
+        → tableAfter edition17 source tokens ≡ tokens
+    unfolding tableAfter afterAnswer
+    kept-tokens number place h = rw h
+
+    pub refused-tokens : (number place : ℕ) (after : List ℕ) → tokenized edition17 source tokens ≡ Scanned.Refused number place
+        → after ≡ tableAfter edition17 source tokens
+        → _≡_ {A = Result} (record { answer = Refused number place; tokens = after; rows = rows }) (answer17 source names tokens rows)
+    refused-tokens number place after h left =
+        let kept = left ∙ kept-tokens number place h in
+        ap (λ (numbers : List ℕ). record { answer = Refused number place; tokens = numbers; rows = rows }) kept
+        ∙ refused-scan (scan edition17 source) refl number place (tokens-by (Scanned.Refused number place) h)
+
+    -- the tokens that the tokeniser has put into the table
+    record Found (count : ℕ) : Type 0 where
+      tokens-found : List Token
+      readable : Readable language17 source names tokens-found
+      counted-found : count ≡ length tokens-found
+      room : length tokens-found ≤ tokenRoom tokens
+      table : tableAfter edition17 source tokens ≡ filled tokens-found tokens
+
+    found-scan : (s : Scan) → scan edition17 source ≡ s → (count : ℕ) → withRoom (tokenRoom tokens) (scanned s) ≡ Tokens count
+        → tableAfter edition17 source tokens ≡ filled (tokensOf s) tokens → Found count
+    unfolding withRoom scanned tokensOf
+    found-scan (fault n p) h count t after = let z : _≡_ {A = ℕ} 0 1 = cc in absurd (omega arith)
+    found-scan (clean ts) h count t after = cases (leb (length ts) (tokenRoom tokens)) refl t
+      where
+        cases : (b : Bool) → leb (length ts) (tokenRoom tokens) ≡ b
+            → pick b (Tokens (length ts)) (Scanned.Refused 5 (length ts)) ≡ Tokens count → Found count
+        cases false q t = let z : _≡_ {A = ℕ} 0 1 = cc in absurd (omega arith)
+        cases true q t = record {
+          tokens-found = ts;
+          readable = record { admitted = admitted; scans = h };
+          counted-found = cc;
+          room = leb-true _ _ q;
+          table = after;
+        }
+
+    found-tokens : (count : ℕ) → tokenized edition17 source tokens ≡ Tokens count → Found count
+    unfolding tableAfter afterAnswer
+    found-tokens count h = found-scan (scan edition17 source) refl count (tokens-by (Tokens count) h) (rw h)
+
+    rest-by : (ts us : List Token) (lent after : List ℕ) (answer : Answer) (rowsAfter : List ℕ) → us ≡ ts → after ≡ filled ts tokens
+        → Readable language17 source names ts → length ts ≤ tokenRoom tokens
+        → answer ≡ result (judged (treeRoom rows) us (readTokens language17 levelLimit source names us)) lent rows .answer
+        → rowsAfter ≡ result (judged (treeRoom rows) us (readTokens language17 levelLimit source names us)) lent rows .rows
+        → _≡_ {A = Result} (record { answer = answer; tokens = after; rows = rowsAfter }) (answer17 source names tokens rows)
+    rest-by ts us lent after answer rowsAfter same table readable room a t =
+        rw (a, t, same, table)
+        (rest-same ts lent tokens rows (readTokens language17 levelLimit source names ts)
+        ∙ sym (read-result language17 source names levelLimit tokens rows ts readable room))
+
+    -- the rows of the tokens are lent to the reading, and nothing else
+    module _ (count : ℕ) (after : List ℕ) (said : tokenized edition17 source tokens ≡ Tokens count)
+        (left : after ≡ tableAfter edition17 source tokens)
+        where
+      found : Found count
+      found = found-tokens count said
+
+      table-filled : after ≡ filled (found .tokens-found) tokens
+      table-filled = left ∙ found .table
+
+      pub lent-inside : count * tokenWidth ≤ length tokens
+      lent-inside = omega (arith, found .room, found .counted-found)
+
+      pub lent-after : count * tokenWidth ≤ length after
+      lent-after =
+          let room = found .room in
+          let l = filled-length (found .tokens-found) tokens (omega arith) in
+          rw (table-filled, l) lent-inside
+
+      lent-rows : rowsOf (take (count * tokenWidth) after) ≡ found .tokens-found
+      lent-rows = own-rows (found .tokens-found) count after tokens table-filled (found .counted-found)
+
+      pub lent-scan : scan edition17 source ≡ clean (rowsOf (take (count * tokenWidth) after))
+      lent-scan = found .readable .scans ∙ rw lent-rows
+
+      -- No. 6 to 8, or acceptance
+      pub read-rest : (answer : Answer) (rowsAfter : List ℕ)
+          → answer ≡ treeResult source names (take (count * tokenWidth) after) rows .answer
+          → rowsAfter ≡ treeResult source names (take (count * tokenWidth) after) rows .rows
+          → _≡_ {A = Result} (record { answer = answer; tokens = after; rows = rowsAfter }) (answer17 source names tokens rows)
+      read-rest answer rowsAfter a t =
+          rest-by (found .tokens-found) (rowsOf (take (count * tokenWidth) after)) (take (count * tokenWidth) after) after answer rowsAfter
+          lent-rows table-filled (found .readable) (found .room) a t

@@ -1,0 +1,226 @@
+-- What the reader of a whole program answers and leaves in the whole rows of the tree table, as document 01's No. 6 to 8 and
+-- acceptance. Assumes nothing.
+use Prim.Native.Nat.{ℕ, zero, suc, _+_, _*_, _/_, _<_, _≤_}
+use mathlib.Core.Path.{_≡_, refl, sym, _∙_, ap, subst}
+use mathlib.Core.Bool.{Bool, true}
+use mathlib.Core.List.{List, [], _∷_, _++_, append-assoc}
+use mathlib.Core.Logic.{_⊎_, inl, inr}
+use native.Mathlib.Omega.{arith}
+use lib.ListN.{length, take, drop, getD, length-append, length-drop, take-append-drop}
+use lib.Seq.{drop-append-le, length-take-le, drop-at}
+use borrow.Author.Tests.{le-leb, lt-leb}
+use Rattle.lexer.specs.Tests.{and, between}
+use Rattle.lexer.specs.Kinds.{firstKind, lastKind}
+use Rattle.lexer.specs.Editions.{edition17}
+use Rattle.lexer.specs.Tokens.{Token, clean, scan}
+use Rattle.lexer.specs.Table.{sourceLimit, tokenRoom, rowsOf, rowAt, kindAt, noToken}
+use Rattle.lexer.proofs.Laws.Counts.{spelled17}
+use Rattle.lexer.proofs.Laws.Rows.{rows-of-length}
+use Rattle.lexer.proofs.Laws.Places.{Inside, Placed, placed-none, placed-more, tokens-placed, tokens-few}
+use Rattle.typenames.specs.declared.Scope.the-variants.{Program}
+use Rattle.grammar.specs.Grammars.{Names, View}
+use Rattle.grammar.specs.Rows.{Row}
+use Rattle.grammar.specs.Reading.{Outcome, ok, stuck, deep, spent, whole}
+use Rattle.grammar.specs.Nonterminals.{program}
+use Rattle.grammar.specs.Nurl.{productions17}
+use Rattle.grammar.specs.Languages.{language17}
+use Rattle.grammar.specs.Sources.{viewOf, namesOf, readTokens}
+use Rattle.grammar.specs.TreeTable.{treeWidth, treeRoom, treeRows, placed, cleared}
+use Rattle.grammar.specs.Answers.{levelLimit, judged, result}
+use Rattle.grammar.specs.declared.Answer.the-variants.{Accepted, Refused}
+use Rattle.grammar.proofs.Laws.Sources.{read-from}
+use Rattle.grammar.proofs.Laws.Nurl17.{fit17, sound17}
+use Rattle.parser.specs.Trees.{put}
+use Rattle.parser.specs.Steps.{Tokens}
+use Rattle.parser.specs.Readings.{Gives, Reads, read, refused6, refused7, passed, ReadsWhole}
+use Rattle.parser.specs.declared.Step.{Step}
+use Rattle.parser.specs.declared.Step.the-variants.{Read}
+use Rattle.parser.proofs.Laws.Trees.{length-put, put-placed}
+use Rattle.nurl.specs.Results.{treeResult}
+
+-- the whole rows of a table, and then the numbers past them
+module _ (rows : List ℕ) where
+  abbrev end : ℕ
+  end = treeRoom rows * treeWidth
+
+  end-inside : end ≤ length rows
+  end-inside = omega arith
+
+  whole-room : treeRoom (take end rows) ≡ treeRoom rows
+  whole-room = let l = length-take-le end rows end-inside in omega arith
+
+  placed-whole : (rs : List Row) → length rs ≤ treeRoom rows → placed rs (take end rows) ++ drop end rows ≡ placed rs rows
+  unfolding placed
+  placed-whole rs room =
+      let l = length-take-le end rows end-inside in
+      let inside : length rs * treeWidth ≤ length (take end rows) = omega arith in
+      let seam = drop-append-le (length rs * treeWidth) (take end rows) (drop end rows) inside in
+      append-assoc (treeRows rs) (drop (length rs * treeWidth) (take end rows)) (drop end rows)
+      ∙ ap (λ (numbers : List ℕ). treeRows rs ++ numbers)
+      (sym seam ∙ ap (drop (length rs * treeWidth)) (take-append-drop end rows))
+
+  cleared-whole : (after : List ℕ) → length after ≡ length (take end rows) → cleared (after ++ drop end rows) ≡ cleared rows
+  unfolding cleared
+  cleared-whole after same =
+      let l = length-take-le end rows end-inside in
+      let d = length-drop end rows in
+      let a = length-append after (drop end rows) in
+      let room : treeRoom (after ++ drop end rows) ≡ treeRoom rows = omega arith in
+      let here : length after ≡ end = omega arith in
+      rw (room, drop-at after (drop end rows) end here)
+
+-- what a reader of some symbols says, from the first token and row on
+module _ (v : View) (count : ℕ) (e : Names) (n : ℕ) (table after : List ℕ) where
+  pub record ReadTo (to needed : ℕ) : Type 0 where
+    row-list : List Row
+    gives : Gives productions17 v e n (whole program) 0 (ok to row-list 0)
+    enough : needed ≡ length row-list
+    put-there : after ≡ put 0 row-list table
+
+  read-to : (from to : Step) → Reads productions17 v count e n 0 1 (whole program) from table to after → from ≡ Read 0 0
+      → (j k : ℕ) → to ≡ Read j k → ReadTo j k
+  read-to from to (read {i} {r} {j} {k} {rows} g size there a b c) start x y goal =
+      let at : i ≡ 0 = cc in
+      let row : r ≡ 0 = cc in
+      let far : j ≡ x = cc in
+      let much : k ≡ y = cc in
+      record {
+        row-list = rows;
+        gives = rw (← far) (subst (λ (i : ℕ). Gives productions17 v e n (whole program) i (ok j rows 0)) at g);
+        enough = omega arith;
+        put-there = there ∙ ap (λ (r : ℕ). put r rows table) row;
+      }
+  read-to from to (refused6 g l) start j k goal = let z : _≡_ {A = ℕ} 0 1 = cc in absurd (omega arith)
+  read-to from to (refused7 g l) start j k goal = let z : _≡_ {A = ℕ} 0 1 = cc in absurd (omega arith)
+  read-to from to (passed l) start j k goal = let z : _≡_ {A = ℕ} 0 1 = cc in absurd (omega arith)
+
+  pub record StoppedAt (number place : ℕ) : Type 0 where
+    says : ((number ≡ 6) × (Gives productions17 v e n (whole program) 0 (stuck place)))
+        ⊎ ((number ≡ 7) × (Gives productions17 v e n (whole program) 0 (deep place)))
+    same-length : length after ≡ length table
+
+  stopped-at : (from to : Step) → Reads productions17 v count e n 0 1 (whole program) from table to after → from ≡ Read 0 0
+      → (number place : ℕ) → to ≡ Step.Refused number place → StoppedAt number place
+  stopped-at from to (read g size there a b c) start number place goal = let z : _≡_ {A = ℕ} 0 1 = cc in absurd (omega arith)
+  stopped-at from to (refused6 {i} {r} {place} g l) start number where-to goal =
+      let at : i ≡ 0 = cc in
+      let far : place ≡ where-to = cc in
+      let six : number ≡ 6 = cc in
+      record { says = inl (six, rw (← far) (subst (λ (i : ℕ). Gives productions17 v e n (whole program) i (stuck place)) at g)); same-length = l }
+  stopped-at from to (refused7 {i} {r} {place} g l) start number where-to goal =
+      let at : i ≡ 0 = cc in
+      let far : place ≡ where-to = cc in
+      let seven : number ≡ 7 = cc in
+      record { says = inr (seven, rw (← far) (subst (λ (i : ℕ). Gives productions17 v e n (whole program) i (deep place)) at g)); same-length = l }
+  stopped-at from to (passed l) start number place goal = let z : _≡_ {A = ℕ} 0 1 = cc in absurd (omega arith)
+
+-- each token of a source is of a kind of document 01
+kind-between : (k : ℕ) → firstKind ≤ k → k ≤ lastKind → between firstKind lastKind k ≡ true
+unfolding between and
+kind-between k low high = rw (le-leb firstKind k low, le-leb k lastKind high)
+
+kinds-between : {s : List ℕ} {lo : ℕ} {ts : List Token} → Placed edition17 s lo ts → (at : ℕ) → at < length ts
+    → between firstKind lastKind (getD ts at noToken .kind) ≡ true
+kinds-between (placed-none w) at h = absurd (omega arith)
+kinds-between (placed-more {t = t} l x f r) zero h = kind-between (t .kind) (f .low) (f .high)
+kinds-between (placed-more l x f r) (suc at) h = kinds-between r at (omega arith)
+
+-- the tokens of a source, in a table that holds nothing else
+module _ (source names tokens : List ℕ) (short : length source ≤ sourceLimit) (scans : scan edition17 source ≡ clean (rowsOf tokens)) where
+  pub tokens-good : Tokens tokens
+  unfolding rowAt
+  tokens-good =
+      let few = tokens-few edition17 spelled17 source (rowsOf tokens) scans in
+      let l = rows-of-length tokens in
+      record {
+        few = omega arith;
+        kinds = λ (at : ℕ) (h : at < tokenRoom tokens).
+            kinds-between (tokens-placed edition17 spelled17 source (rowsOf tokens) scans) at (omega arith);
+      }
+
+  module _ (rows after : List ℕ) where
+    abbrev v : View
+    v = viewOf language17 source (rowsOf tokens)
+
+    abbrev e : Names
+    e = namesOf language17 source names (rowsOf tokens)
+
+    -- what the reader gives is the reading of the tokens
+    reads : (o : Outcome) → Gives productions17 v e levelLimit (whole program) 0 o → (o ≡ spent → ⊥)
+        → readTokens language17 levelLimit source names (rowsOf tokens) ≡ o
+    reads o g some = read-from language17 fit17 source names (rowsOf tokens) scans (0 + g .fuel) levelLimit o (g .reads 0) some
+
+    -- rows that were put, with room for them and without
+    accepted-by : (count needed : ℕ) (rs : List Row) → readTokens language17 levelLimit source names (rowsOf tokens) ≡ ok count rs 0
+        → needed ≡ length rs → after ≡ put 0 rs (take (end rows) rows) → needed ≤ treeRoom rows
+        → (Accepted count needed ≡ treeResult source names tokens rows .answer)
+        × (after ++ drop (end rows) rows ≡ treeResult source names tokens rows .rows)
+    unfolding judged result
+    accepted-by count needed rs said enough there room =
+        let all = sound17 source names (rowsOf tokens) scans levelLimit count 0 rs said .0 in
+        let fits : length rs ≤ treeRoom rows = omega arith in
+        let w = whole-room rows in
+        rw (said, le-leb (length rs) (treeRoom rows) fits, all, enough, there, put-placed rs (take (end rows) rows) (omega arith))
+        (refl, placed-whole rows rs fits)
+
+    full-by : (count needed : ℕ) (rs : List Row) → readTokens language17 levelLimit source names (rowsOf tokens) ≡ ok count rs 0
+        → needed ≡ length rs → after ≡ put 0 rs (take (end rows) rows) → treeRoom rows < needed
+        → (Refused 8 needed ≡ treeResult source names tokens rows .answer)
+        × (cleared (after ++ drop (end rows) rows) ≡ treeResult source names tokens rows .rows)
+    unfolding judged result
+    full-by count needed rs said enough there room =
+        let over : treeRoom rows < length rs = omega arith in
+        let same = ap length there ∙ length-put 0 rs (take (end rows) rows) in
+        rw (said, lt-leb (length rs) (treeRoom rows) over, enough) (refl, cleared-whole rows after same)
+
+    -- from the reader's answer, with so much room
+    module _ (room : ℕ) (is-room : room ≡ treeRoom rows) (step : Step)
+        (whole-reads : ReadsWhole source names tokens Program levelLimit (take (room * treeWidth) rows) step after)
+        where
+      in-room : ReadsWhole source names tokens Program levelLimit (take (end rows) rows) step after
+      in-room =
+          subst (λ (m : ℕ). ReadsWhole source names tokens Program levelLimit (take (m * treeWidth) rows) step after) is-room whole-reads
+
+      read-rows : (count needed : ℕ) → step ≡ Read count needed → ReadTo v (tokenRoom tokens) e levelLimit (take (end rows) rows) after count needed
+      read-rows count needed h = read-to v (tokenRoom tokens) e levelLimit (take (end rows) rows) after (Read 0 0) step in-room refl count needed h
+
+      reads-ok : (count needed : ℕ) (h : step ≡ Read count needed)
+          → readTokens language17 levelLimit source names (rowsOf tokens) ≡ ok count (read-rows count needed h .row-list) 0
+      reads-ok count needed h =
+          let to = read-rows count needed h in
+          reads (ok count (to .row-list) 0) (to .gives)
+          (λ (z : ok count (to .row-list) 0 ≡ spent). let q : _≡_ {A = ℕ} 0 1 = cc in omega arith)
+
+      pub accepted-rows : (count needed : ℕ) → step ≡ Read count needed → needed ≤ room
+          → (Accepted count needed ≡ treeResult source names tokens rows .answer)
+          × (after ++ drop (room * treeWidth) rows ≡ treeResult source names tokens rows .rows)
+      accepted-rows count needed h fits =
+          let to = read-rows count needed h in
+          rw is-room (accepted-by count needed (to .row-list) (reads-ok count needed h) (to .enough) (to .put-there) (omega arith))
+
+      pub full-rows : (count needed : ℕ) → step ≡ Read count needed → room < needed
+          → (Refused 8 needed ≡ treeResult source names tokens rows .answer)
+          × (cleared (after ++ drop (room * treeWidth) rows) ≡ treeResult source names tokens rows .rows)
+      full-rows count needed h over =
+          let to = read-rows count needed h in
+          rw is-room (full-by count needed (to .row-list) (reads-ok count needed h) (to .enough) (to .put-there) (omega arith))
+
+      pub refused-rows : (number place : ℕ) → step ≡ Step.Refused number place
+          → (Refused number place ≡ treeResult source names tokens rows .answer)
+          × (cleared (after ++ drop (room * treeWidth) rows) ≡ treeResult source names tokens rows .rows)
+      unfolding judged result
+      refused-rows number place h =
+          let stopped = stopped-at v (tokenRoom tokens) e levelLimit (take (end rows) rows) after (Read 0 0) step in-room refl number place h in
+          rw is-room (cases (stopped .says) (cleared-whole rows after (stopped .same-length)))
+        where
+          cases : ((number ≡ 6) × (Gives productions17 v e levelLimit (whole program) 0 (stuck place)))
+              ⊎ ((number ≡ 7) × (Gives productions17 v e levelLimit (whole program) 0 (deep place)))
+              → cleared (after ++ drop (end rows) rows) ≡ cleared rows
+              → (Refused number place ≡ treeResult source names tokens rows .answer)
+              × (cleared (after ++ drop (end rows) rows) ≡ treeResult source names tokens rows .rows)
+          cases (inl (six, g)) clear =
+              let said = reads (stuck place) g (λ (z : stuck place ≡ spent). let q : _≡_ {A = ℕ} 0 1 = cc in omega arith) in
+              rw (said, six) (refl, clear)
+          cases (inr (seven, g)) clear =
+              let said = reads (deep place) g (λ (z : deep place ≡ spent). let q : _≡_ {A = ℕ} 0 1 = cc in omega arith) in
+              rw (said, seven) (refl, clear)

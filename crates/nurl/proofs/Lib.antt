@@ -1,0 +1,2 @@
+-- What is proved of the library's definitions.
+pub mod Laws

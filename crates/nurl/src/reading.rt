@@ -1,0 +1,74 @@
+// From bytes to rows: document 01's refusals in their order, or acceptance, and what both tables hold afterwards.
+use grammar::Answer;
+use lexer::Scanned;
+use parser::Step;
+use parser::tree;
+use typenames::Checked;
+use typenames::Scope;
+ghost use mathlib.Core.Path.{_≡_};
+ghost use Prim.Native.Nat.{_≤_};
+ghost use lib.ListN.{length};
+ghost use Rattle.lexer.specs.Editions.{edition17};
+ghost use Rattle.lexer.specs.Tokens.{clean, scan};
+ghost use Rattle.lexer.specs.Table.{sourceLimit, rowsOf};
+ghost use Rattle.grammar.specs.Languages.{language17};
+ghost use Rattle.grammar.specs.Answers.{Result, answer17};
+ghost use Rattle.grammar.specs.Demands.{Demands};
+ghost use Rattle.nurl.specs.Results.{treeResult};
+
+// The most levels that rows may be nested: "where that row would be at level 201" it is too deep.
+const LEVEL_LIMIT: usize = 200;
+
+// Refusals 6 to 8 or acceptance, for the tokens of a source in a table that holds nothing else.
+fn read_tokens(source: &[u8], names: &[u8], tokens: &[u32], rows: &mut [u32]) -> Answer
+    requires { ⌜ length (now source) ≤ sourceLimit ⌝ }
+    requires { ⌜ scan edition17 (now source) ≡ clean (rowsOf (now tokens)) ⌝ }
+    ensures answer { λ r. ⌜ r
+        ≡ treeResult (now (source .entry)) (now (names .entry)) (now (tokens .entry)) (now (rows .entry)) .answer ⌝ }
+    ensures table { λ r. ⌜ now (rows .exit)
+        ≡ treeResult (now (source .entry)) (now (names .entry)) (now (tokens .entry)) (now (rows .entry)) .rows ⌝ }
+{
+    let room = tree::room(rows);
+    let end = room * tree::WIDTH;
+    let step = parser::read_program(source, names, tokens, &mut rows[..end], Scope::Program, LEVEL_LIMIT);
+    match step {
+        Step::Refused(number, place) => {
+            tree::clear(rows);
+            Answer::Refused(number, place)
+        }
+        Step::Read(count, needed) => {
+            if room < needed {
+                tree::clear(rows);
+                return Answer::Refused(8, needed);
+            }
+            Answer::Accepted(count, needed)
+        }
+    }
+}
+
+// Reads a source with a list of extra type names into two lent tables. Any bytes, any list and any tables get an answer.
+pub fn read(source: &[u8], names: &[u8], tokens: &mut [u32], rows: &mut [u32]) -> Answer
+    ensures answer { λ r. ⌜ _≡_ {A = Result} (record { answer = r; tokens = now (tokens .exit); rows = now (rows .exit) })
+        (answer17 (now (source .entry)) (now (names .entry)) (now (tokens .entry)) (now (rows .entry))) ⌝ }
+    ensures demands { λ r. ⌜ Demands language17 (now (source .entry)) (now (names .entry)) 200
+        (now (tokens .entry)) (now (rows .entry))
+        (record { answer = r; tokens = now (tokens .exit); rows = now (rows .exit) }) ⌝ }
+{
+    if lexer::SOURCE_LIMIT < source.len() {
+        return Answer::Refused(1, 0);
+    }
+    let checked = typenames::check_names(names);
+    match checked {
+        Checked::Refused(number, place) => Answer::Refused(number, place),
+        Checked::Good => {
+            let scanned = lexer::tokenize(source, tokens);
+            match scanned {
+                Scanned::Refused(number, place) => Answer::Refused(number, place),
+                Scanned::Tokens(count) => {
+                    let end = count * lexer::WIDTH;
+                    read_tokens(source, names, &tokens[..end], rows)
+                }
+            }
+        }
+    }
+}
