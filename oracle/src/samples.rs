@@ -133,7 +133,6 @@ pub const README_TEXT: &[Sample] = &[
     program("% Drop T { @ drop T self → v { … } }"),
     program("% Drop T { @ drop T self → v { } }"),
     at(Place::Type, "@ R P*"),
-    body("% Shape Rect { @ area Rect r → i { ^ * . r w . r h } }"),
 ];
 
 /// The samples of documents 008 and 009.

@@ -22,14 +22,21 @@ pub fn too_deep() -> String {
     format!("@ g → v {{ {} 1 }}", "!".repeat(197))
 }
 
+/// No row, one row, one row too few, exactly enough and one row more.
+fn around(needed: usize) -> Vec<usize> {
+    let mut rows = vec![0, 1, needed.saturating_sub(1), needed, needed + 1];
+    rows.sort();
+    rows.dedup();
+    rows
+}
+
 /// Token tables without rows, with one row too few, exactly enough, and one
 /// row more, each with stray numbers.
 pub fn token_room() -> Vec<Case> {
     let mut cases = Vec::new();
     for source in sources() {
         let needed = Needed::of(source.as_bytes(), b"").tokens;
-        let rows = [0, needed.saturating_sub(1), needed, needed + 1];
-        for rows in rows {
+        for rows in around(needed) {
             for stray in 0..TOKEN_WIDTH {
                 let length = rows * TOKEN_WIDTH + stray;
                 cases.push(Case::new(&source).token_table(length));
@@ -39,14 +46,13 @@ pub fn token_room() -> Vec<Case> {
     cases
 }
 
-/// Tree tables likewise, also beside a token table that is too small; and many
+/// Tree tables likewise, with none to three stray numbers, also beside a token table that is too small; and many
 /// rows.
 pub fn tree_room() -> Vec<Case> {
     let mut cases = Vec::new();
     for source in sources() {
         let needed = Needed::of(source.as_bytes(), b"");
-        let rows = [0, needed.rows - 1, needed.rows, needed.rows + 1];
-        for rows in rows {
+        for rows in around(needed.rows) {
             for stray in 0..ROW_WIDTH {
                 let length = rows * ROW_WIDTH + stray;
                 let case = Case::new(&source).tree_table(length);

@@ -47,7 +47,7 @@ pub fn large_program(random: &mut Random, mut is_enough: impl FnMut(&[Text]) -> 
     loop {
         writer.tokens.clear();
         writer.pointer_cast_end = usize::MAX;
-        writer.allow(90);
+        writer.allow(40);
         if writer.random.once_in(6) {
             writer.declaration();
         } else {
@@ -162,11 +162,18 @@ impl Writer<'_> {
         }
     }
 
-    /// A function with a body of several statements.
+    /// A function with a body of several statements, each of ordinary length.
     fn long_function(&mut self) {
+        self.allow(10);
         self.signature();
-        let count = 3 + self.random.below(8);
-        self.block_of(count);
+        self.put("{");
+        let mut after_complement = false;
+        for _ in 0..3 + self.random.below(10) {
+            let length = 3 + self.random.below(12);
+            self.allow(length);
+            after_complement = self.statement(after_complement);
+        }
+        self.put("}");
     }
 
     fn trait_declaration(&mut self) {

@@ -22,7 +22,7 @@ impl Writer<'_> {
 
     /// A statement. Answers whether it was a complement: then the next
     /// statement may not begin with `{`, nor with an IDENT (rule 6).
-    fn statement(&mut self, after_complement: bool) -> bool {
+    pub fn statement(&mut self, after_complement: bool) -> bool {
         match self.random.below(12) {
             0..=2 => self.let_statement(),
             3 => {
