@@ -15,7 +15,7 @@ use Rattle.nurl.specs.declared.Written.the-variants.{Whole, Cut}
 
 -- the digit of a number below ten
 abbrev pub digit : ℕ → ℕ
-digit n = code "0" + n % 10
+digit n = n % 10 + code "0"
 
 -- the decimal digits of a number, of which there are at most so many and one
 unfoldable pub digitsWithin : ℕ → ℕ → List ℕ

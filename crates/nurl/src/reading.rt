@@ -30,7 +30,14 @@ fn read_tokens(source: &[u8], names: &[u8], tokens: &[u32], rows: &mut [u32]) ->
 {
     let room = tree::room(rows);
     let end = room * tree::WIDTH;
-    let step = parser::read_program(source, names, tokens, &mut rows[..end], Scope::Program, LEVEL_LIMIT);
+    let step = parser::read_program(
+        source,
+        names,
+        tokens,
+        &mut rows[..end],
+        Scope::Program,
+        LEVEL_LIMIT,
+    );
     match step {
         Step::Refused(number, place) => {
             tree::clear(rows);

@@ -15,7 +15,14 @@ pub fn room(table: &[u32]) -> usize
 }
 
 // Writes a row of the tree, where the table has room for it.
-pub(crate) fn put_row(rows: &mut [u32], row: usize, kind: u32, first: usize, cover: usize, count: usize)
+pub(crate) fn put_row(
+    rows: &mut [u32],
+    row: usize,
+    kind: u32,
+    first: usize,
+    cover: usize,
+    count: usize,
+)
     requires { ⌜ (first < 2 ^ 32) × (cover < 2 ^ 32) × (count < 2 ^ 32) ⌝ }
     ensures { λ r. ⌜ now (rows .exit)
         ≡ putRow row (record { kind = kind; first = first; cover = cover; count = count }) (now (rows .entry)) ⌝ }

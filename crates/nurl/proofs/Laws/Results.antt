@@ -176,33 +176,33 @@ module _ (source names tokens rows : List ℕ) where
     -- the rows of the tokens are lent to the reading, and nothing else
     module _ (count : ℕ) (after : List ℕ) (said : tokenized edition17 source tokens ≡ Tokens count)
         (left : after ≡ tableAfter edition17 source tokens)
-        where
-      found : Found count
-      found = found-tokens count said
+      where
+        found : Found count
+        found = found-tokens count said
 
-      table-filled : after ≡ filled (found .tokens-found) tokens
-      table-filled = left ∙ found .table
+        table-filled : after ≡ filled (found .tokens-found) tokens
+        table-filled = left ∙ found .table
 
-      pub lent-inside : count * tokenWidth ≤ length tokens
-      lent-inside = omega (arith, found .room, found .counted-found)
+        pub lent-inside : count * tokenWidth ≤ length tokens
+        lent-inside = omega (arith, found .room, found .counted-found)
 
-      pub lent-after : count * tokenWidth ≤ length after
-      lent-after =
-          let room = found .room in
-          let l = filled-length (found .tokens-found) tokens (omega arith) in
-          rw (table-filled, l) lent-inside
+        pub lent-after : count * tokenWidth ≤ length after
+        lent-after =
+            let room = found .room in
+            let l = filled-length (found .tokens-found) tokens (omega arith) in
+            rw (table-filled, l) lent-inside
 
-      lent-rows : rowsOf (take (count * tokenWidth) after) ≡ found .tokens-found
-      lent-rows = own-rows (found .tokens-found) count after tokens table-filled (found .counted-found)
+        lent-rows : rowsOf (take (count * tokenWidth) after) ≡ found .tokens-found
+        lent-rows = own-rows (found .tokens-found) count after tokens table-filled (found .counted-found)
 
-      pub lent-scan : scan edition17 source ≡ clean (rowsOf (take (count * tokenWidth) after))
-      lent-scan = found .readable .scans ∙ rw lent-rows
+        pub lent-scan : scan edition17 source ≡ clean (rowsOf (take (count * tokenWidth) after))
+        lent-scan = found .readable .scans ∙ rw lent-rows
 
-      -- No. 6 to 8, or acceptance
-      pub read-rest : (answer : Answer) (rowsAfter : List ℕ)
-          → answer ≡ treeResult source names (take (count * tokenWidth) after) rows .answer
-          → rowsAfter ≡ treeResult source names (take (count * tokenWidth) after) rows .rows
-          → _≡_ {A = Result} (record { answer = answer; tokens = after; rows = rowsAfter }) (answer17 source names tokens rows)
-      read-rest answer rowsAfter a t =
-          rest-by (found .tokens-found) (rowsOf (take (count * tokenWidth) after)) (take (count * tokenWidth) after) after answer rowsAfter
-          lent-rows table-filled (found .readable) (found .room) a t
+        -- No. 6 to 8, or acceptance
+        pub read-rest : (answer : Answer) (rowsAfter : List ℕ)
+            → answer ≡ treeResult source names (take (count * tokenWidth) after) rows .answer
+            → rowsAfter ≡ treeResult source names (take (count * tokenWidth) after) rows .rows
+            → _≡_ {A = Result} (record { answer = answer; tokens = after; rows = rowsAfter }) (answer17 source names tokens rows)
+        read-rest answer rowsAfter a t =
+            rest-by (found .tokens-found) (rowsOf (take (count * tokenWidth) after)) (take (count * tokenWidth) after) after answer rowsAfter
+            lent-rows table-filled (found .readable) (found .room) a t

@@ -176,51 +176,51 @@ module _ (source names tokens : List ℕ) (short : length source ≤ sourceLimit
     -- from the reader's answer, with so much room
     module _ (room : ℕ) (is-room : room ≡ treeRoom rows) (step : Step)
         (whole-reads : ReadsWhole source names tokens Program levelLimit (take (room * treeWidth) rows) step after)
-        where
-      in-room : ReadsWhole source names tokens Program levelLimit (take (end rows) rows) step after
-      in-room =
-          subst (λ (m : ℕ). ReadsWhole source names tokens Program levelLimit (take (m * treeWidth) rows) step after) is-room whole-reads
+      where
+        in-room : ReadsWhole source names tokens Program levelLimit (take (end rows) rows) step after
+        in-room =
+            subst (λ (m : ℕ). ReadsWhole source names tokens Program levelLimit (take (m * treeWidth) rows) step after) is-room whole-reads
 
-      read-rows : (count needed : ℕ) → step ≡ Read count needed → ReadTo v (tokenRoom tokens) e levelLimit (take (end rows) rows) after count needed
-      read-rows count needed h = read-to v (tokenRoom tokens) e levelLimit (take (end rows) rows) after (Read 0 0) step in-room refl count needed h
+        read-rows : (count needed : ℕ) → step ≡ Read count needed → ReadTo v (tokenRoom tokens) e levelLimit (take (end rows) rows) after count needed
+        read-rows count needed h = read-to v (tokenRoom tokens) e levelLimit (take (end rows) rows) after (Read 0 0) step in-room refl count needed h
 
-      reads-ok : (count needed : ℕ) (h : step ≡ Read count needed)
-          → readTokens language17 levelLimit source names (rowsOf tokens) ≡ ok count (read-rows count needed h .row-list) 0
-      reads-ok count needed h =
-          let to = read-rows count needed h in
-          reads (ok count (to .row-list) 0) (to .gives)
-          (λ (z : ok count (to .row-list) 0 ≡ spent). let q : _≡_ {A = ℕ} 0 1 = cc in omega arith)
+        reads-ok : (count needed : ℕ) (h : step ≡ Read count needed)
+            → readTokens language17 levelLimit source names (rowsOf tokens) ≡ ok count (read-rows count needed h .row-list) 0
+        reads-ok count needed h =
+            let to = read-rows count needed h in
+            reads (ok count (to .row-list) 0) (to .gives)
+            (λ (z : ok count (to .row-list) 0 ≡ spent). let q : _≡_ {A = ℕ} 0 1 = cc in omega arith)
 
-      pub accepted-rows : (count needed : ℕ) → step ≡ Read count needed → needed ≤ room
-          → (Accepted count needed ≡ treeResult source names tokens rows .answer)
-          × (after ++ drop (room * treeWidth) rows ≡ treeResult source names tokens rows .rows)
-      accepted-rows count needed h fits =
-          let to = read-rows count needed h in
-          rw is-room (accepted-by count needed (to .row-list) (reads-ok count needed h) (to .enough) (to .put-there) (omega arith))
+        pub accepted-rows : (count needed : ℕ) → step ≡ Read count needed → needed ≤ room
+            → (Accepted count needed ≡ treeResult source names tokens rows .answer)
+            × (after ++ drop (room * treeWidth) rows ≡ treeResult source names tokens rows .rows)
+        accepted-rows count needed h fits =
+            let to = read-rows count needed h in
+            rw is-room (accepted-by count needed (to .row-list) (reads-ok count needed h) (to .enough) (to .put-there) (omega arith))
 
-      pub full-rows : (count needed : ℕ) → step ≡ Read count needed → room < needed
-          → (Refused 8 needed ≡ treeResult source names tokens rows .answer)
-          × (cleared (after ++ drop (room * treeWidth) rows) ≡ treeResult source names tokens rows .rows)
-      full-rows count needed h over =
-          let to = read-rows count needed h in
-          rw is-room (full-by count needed (to .row-list) (reads-ok count needed h) (to .enough) (to .put-there) (omega arith))
+        pub full-rows : (count needed : ℕ) → step ≡ Read count needed → room < needed
+            → (Refused 8 needed ≡ treeResult source names tokens rows .answer)
+            × (cleared (after ++ drop (room * treeWidth) rows) ≡ treeResult source names tokens rows .rows)
+        full-rows count needed h over =
+            let to = read-rows count needed h in
+            rw is-room (full-by count needed (to .row-list) (reads-ok count needed h) (to .enough) (to .put-there) (omega arith))
 
-      pub refused-rows : (number place : ℕ) → step ≡ Step.Refused number place
-          → (Refused number place ≡ treeResult source names tokens rows .answer)
-          × (cleared (after ++ drop (room * treeWidth) rows) ≡ treeResult source names tokens rows .rows)
-      unfolding judged result
-      refused-rows number place h =
-          let stopped = stopped-at v (tokenRoom tokens) e levelLimit (take (end rows) rows) after (Read 0 0) step in-room refl number place h in
-          rw is-room (cases (stopped .says) (cleared-whole rows after (stopped .same-length)))
-        where
-          cases : ((number ≡ 6) × (Gives productions17 v e levelLimit (whole program) 0 (stuck place)))
-              ⊎ ((number ≡ 7) × (Gives productions17 v e levelLimit (whole program) 0 (deep place)))
-              → cleared (after ++ drop (end rows) rows) ≡ cleared rows
-              → (Refused number place ≡ treeResult source names tokens rows .answer)
-              × (cleared (after ++ drop (end rows) rows) ≡ treeResult source names tokens rows .rows)
-          cases (inl (six, g)) clear =
-              let said = reads (stuck place) g (λ (z : stuck place ≡ spent). let q : _≡_ {A = ℕ} 0 1 = cc in omega arith) in
-              rw (said, six) (refl, clear)
-          cases (inr (seven, g)) clear =
-              let said = reads (deep place) g (λ (z : deep place ≡ spent). let q : _≡_ {A = ℕ} 0 1 = cc in omega arith) in
-              rw (said, seven) (refl, clear)
+        pub refused-rows : (number place : ℕ) → step ≡ Step.Refused number place
+            → (Refused number place ≡ treeResult source names tokens rows .answer)
+            × (cleared (after ++ drop (room * treeWidth) rows) ≡ treeResult source names tokens rows .rows)
+        unfolding judged result
+        refused-rows number place h =
+            let stopped = stopped-at v (tokenRoom tokens) e levelLimit (take (end rows) rows) after (Read 0 0) step in-room refl number place h in
+            rw is-room (cases (stopped .says) (cleared-whole rows after (stopped .same-length)))
+          where
+            cases : ((number ≡ 6) × (Gives productions17 v e levelLimit (whole program) 0 (stuck place)))
+                ⊎ ((number ≡ 7) × (Gives productions17 v e levelLimit (whole program) 0 (deep place)))
+                → cleared (after ++ drop (end rows) rows) ≡ cleared rows
+                → (Refused number place ≡ treeResult source names tokens rows .answer)
+                × (cleared (after ++ drop (end rows) rows) ≡ treeResult source names tokens rows .rows)
+            cases (inl (six, g)) clear =
+                let said = reads (stuck place) g (λ (z : stuck place ≡ spent). let q : _≡_ {A = ℕ} 0 1 = cc in omega arith) in
+                rw (said, six) (refl, clear)
+            cases (inr (seven, g)) clear =
+                let said = reads (deep place) g (λ (z : deep place ≡ spent). let q : _≡_ {A = ℕ} 0 1 = cc in omega arith) in
+                rw (said, seven) (refl, clear)

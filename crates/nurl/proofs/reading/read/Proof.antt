@@ -17,7 +17,6 @@ use Rattle.typenames.proofs.check_names.Reads as check-names-reads
 returns : tie.Need-returns
 returns c =
     let args = c .before .before .before .before .before .args in
-    
     let args = args in
     meets (args .source .now) (args .names .now) (args .tokens .now) (args .rows .now) _
     (refused-long (args .source .now) (args .names .now) (args .tokens .now) (args .rows .now) (c .if1 .taken))
@@ -55,7 +54,6 @@ mul-end c =
     let tokenize = c .before .before .before .before .before .tokenize in
     let scanned2 = c .before .scanned2 in
     let if1 = c .before .before .before .before .before .before .before .before .before .before .if1 in
-    
     let args = args in
     let good = sym (check-names .ensures) ∙ enum-told .given .1 in
     let said = sym (tokenize .ensures .0) ∙ scanned2 .given .1 in
@@ -72,7 +70,6 @@ slice-reshare-prefix-read-tokens c =
     let tokenize = c .before .before .before .before .before .tokenize in
     let scanned2 = c .before .scanned2 in
     let if1 = c .before .before .before .before .before .before .before .before .before .before .if1 in
-    
     let args = args in
     let good = sym (check-names .ensures) ∙ enum-told .given .1 in
     let said = sym (tokenize .ensures .0) ∙ scanned2 .given .1 in
@@ -87,7 +84,6 @@ slice-aggregate-read-tokens c =
     let tokenize = c .before .before .before .before .before .before .tokenize in
     let scanned2 = c .before .before .scanned2 in
     let if1 = c .before .before .before .before .before .before .before .before .before .before .before .if1 in
-    
     let args = args in
     let good = sym (check-names .ensures) ∙ enum-told .given .1 in
     let said = sym (tokenize .ensures .0) ∙ scanned2 .given .1 in
@@ -103,12 +99,12 @@ read-tokens-requires c κs =
     let tokenize = c .before .before .before .before .before .before .before .tokenize in
     let scanned2 = c .before .before .before .scanned2 in
     let if1 = c .before .before .before .before .before .before .before .before .before .before .before .before .if1 in
-    
     let args = args in
     let good = sym (check-names .ensures) ∙ enum-told .given .1 in
-    let said = sym (tokenize .ensures .0) ∙ scanned2 .given .1 in
-    (if1 .left,
-    lent-scan (args .source .now) (args .names .now) (args .tokens .now) (args .rows .now) (if1 .left) good _ _ said (tokenize .ensures .1))
+    let said = sym (tokenize .ensures .0) ∙ scanned2 .given .1 in (
+      if1 .left,
+      lent-scan (args .source .now) (args .names .now) (args .tokens .now) (args .rows .now) (if1 .left) good _ _ said (tokenize .ensures .1),
+    )
 
 -- src/reading.rt:50:1
 returns-2 : tie.Need-returns-2
@@ -117,7 +113,6 @@ returns-2 c =
     let if1 = c .before .before .before .before .if1 in
     let check-names = c .before .before .before .check-names in
     let checked = c .before .checked in
-    
     let args = args in
     meets (args .source .now) (args .names .now) (args .tokens .now) (args .rows .now) _
     (refused-names (args .source .now) (args .names .now) (args .tokens .now) (args .rows .now) _ _ (if1 .left)
@@ -136,7 +131,6 @@ returns-3 c =
     let tokenize = c .before .before .before .before .before .tokenize in
     let scanned = c .before .scanned in
     let if1 = c .before .before .before .before .before .before .before .before .before .before .if1 in
-    
     let args = args in
     let good = sym (check-names .ensures) ∙ enum-told .given .1 in
     let said = sym (tokenize .ensures .0) ∙ scanned .given .1 in
@@ -162,7 +156,6 @@ returns-4 c =
     let scanned2 = c .before .before .before .before .before .before .scanned2 in
     let if1 = c .before .before .before .before .before .before .before .before .before .before .before .before .before .before .before .if1 in
     let read-tokens = c .before .before .read-tokens in
-    
     let args = args in
     let good = sym (check-names .ensures) ∙ enum-told .given .1 in
     let said = sym (tokenize .ensures .0) ∙ scanned2 .given .1 in

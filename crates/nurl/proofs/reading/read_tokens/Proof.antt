@@ -30,7 +30,6 @@ slice-relend-prefix-read-program c = search needs
 slice-aggregate-read-program : tie.Need-slice-aggregate-read-program
 slice-aggregate-read-program c =
     let room = c .before .room in
-    
     let room = room .ensures in
     sym (length-take-le _ _ (omega arith))
 
@@ -39,7 +38,6 @@ read-program-requires : tie.Need-read-program-requires
 read-program-requires c κs =
     let args = c .before .before .before .before .before .before .before .args in
     let pre = c .before .before .before .before .before .before .before .pre in
-    
     let args = args in
     tokens-good (args .source .now) (args .names .now) (args .tokens .now) (pre .0) (pre .1)
 
@@ -73,7 +71,6 @@ returns c =
     let step2 = c .before .before .before .before .before .before .step2 in
     let if1 = c .before .before .before .before .if1 in
     let clear2 = c .before .before .clear2 in
-    
     let args = args in
     let law = full-rows (args .source .now) (args .names .now) (args .tokens .now) (pre .0) (pre .1) (args .rows .now) _
     (room .result) (room .ensures) _ (read-program .ensures) _ _ (step2 .given .1) (if1 .taken) in
@@ -92,7 +89,6 @@ returns-2 c =
     let read-program = c .before .before .before .before .before .before .before .before .before .read-program in
     let step = c .before .before .before .before .before .step in
     let clear = c .before .before .clear in
-    
     let args = args in
     let law = refused-rows (args .source .now) (args .names .now) (args .tokens .now) (pre .0) (pre .1) (args .rows .now) _
     (room .result) (room .ensures) _ (read-program .ensures) _ _ (step .given .1) in
@@ -110,7 +106,6 @@ returns-3 c =
     let room = c .before .before .before .before .before .before .before .before .room in
     let read-program = c .before .before .before .before .before .before .read-program in
     let step2 = c .before .before .step2 in
-    
     let args = args in
     accepted-rows (args .source .now) (args .names .now) (args .tokens .now) (pre .0) (pre .1) (args .rows .now) _
     (room .result) (room .ensures) _ (read-program .ensures) _ _ (step2 .given .1) (c .if1 .left)
