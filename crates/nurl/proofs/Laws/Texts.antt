@@ -19,7 +19,7 @@ written-by : (text : List ℕ) (room : ℕ) (t : Bool) → leb (length text) roo
 unfolding written
 written-by text room t h = rw h
 
-fits-whole : (text : List ℕ) (room at : ℕ) → Whole at ≡ written text room → (at ≡ length text) × (length text ≤ room)
+pub fits-whole : (text : List ℕ) (room at : ℕ) → Whole at ≡ written text room → (at ≡ length text) × (length text ≤ room)
 fits-whole text room at h = cases (leb (length text) room) refl
   where
     cases : (t : Bool) → leb (length text) room ≡ t → (at ≡ length text) × (length text ≤ room)

@@ -1,0 +1,2 @@
+-- What the desk program prints.
+pub mod Desk
