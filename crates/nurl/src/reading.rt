@@ -11,6 +11,7 @@ ghost use lib.ListN.{length};
 ghost use Rattle.lexer.specs.Editions.{edition17};
 ghost use Rattle.lexer.specs.Tokens.{clean, scan};
 ghost use Rattle.lexer.specs.Table.{sourceLimit, rowsOf};
+ghost use Rattle.typenames.specs.NameList.{nameLimit};
 ghost use Rattle.grammar.specs.Languages.{language17};
 ghost use Rattle.grammar.specs.Answers.{Result, answer17};
 ghost use Rattle.grammar.specs.Demands.{Demands};
@@ -19,20 +20,31 @@ ghost use Rattle.nurl.specs.Results.{treeResult};
 // The most levels that rows may be nested: "where that row would be at level 201" it is too deep.
 const LEVEL_LIMIT: usize = 200;
 
+// Room for the longest list of names, prepared.
+fn names_buffer() -> [u8; 20480]
+    ensures { λ r. ⌜ 20480 ≡ length r ⌝ }
+{
+    [0; 20480]
+}
+
 // Refusals 6 to 8 or acceptance, for the tokens of a source in a table that holds nothing else.
 fn read_tokens(source: &[u8], names: &[u8], tokens: &[u32], rows: &mut [u32]) -> Answer
     requires { ⌜ length (now source) ≤ sourceLimit ⌝ }
+    requires { ⌜ length (now names) ≤ nameLimit ⌝ }
     requires { ⌜ scan edition17 (now source) ≡ clean (rowsOf (now tokens)) ⌝ }
     ensures answer { λ r. ⌜ r
         ≡ treeResult (now (source .entry)) (now (names .entry)) (now (tokens .entry)) (now (rows .entry)) .answer ⌝ }
     ensures table { λ r. ⌜ now (rows .exit)
         ≡ treeResult (now (source .entry)) (now (names .entry)) (now (tokens .entry)) (now (rows .entry)) .rows ⌝ }
 {
+    let mut buffer = names_buffer();
+    let size = typenames::SLOTS + names.len();
+    typenames::prepare(source, names, tokens, &mut buffer[..size]);
     let room = tree::room(rows);
     let end = room * tree::WIDTH;
     let step = parser::read_program(
         source,
-        names,
+        &buffer[..size],
         tokens,
         &mut rows[..end],
         Scope::Program,
@@ -40,12 +52,12 @@ fn read_tokens(source: &[u8], names: &[u8], tokens: &[u32], rows: &mut [u32]) ->
     );
     match step {
         Step::Refused(number, place) => {
-            tree::clear(rows);
+            tree::clear(&mut rows[..end]);
             Answer::Refused(number, place)
         }
         Step::Read(count, needed) => {
             if room < needed {
-                tree::clear(rows);
+                tree::clear(&mut rows[..end]);
                 return Answer::Refused(8, needed);
             }
             Answer::Accepted(count, needed)

@@ -4,7 +4,8 @@ use mathlib.Core.Path.{_≡_}
 use mathlib.Core.List.{List, [], _∷_}
 use lib.ListN.{length}
 use Rattle.lexer.specs.Table.{tokenRoom, rowsOf}
-use Rattle.typenames.specs.TypeNames.{inForce}
+use Rattle.typenames.specs.TypeNames.{items, inForce}
+use Rattle.typenames.specs.Prepared.{preparedNames}
 use Rattle.typenames.specs.declared.Scope.{Scope}
 use Rattle.grammar.specs.Grammars.{Symbol, part, Production, Names, View}
 use Rattle.grammar.specs.Rows.{Row}
@@ -12,7 +13,7 @@ use Rattle.grammar.specs.Reading.{Outcome, ok, stuck, deep, readWithin, whole}
 use Rattle.grammar.specs.Nonterminals.{program}
 use Rattle.grammar.specs.Nurl.{productions17}
 use Rattle.grammar.specs.Languages.{language17}
-use Rattle.grammar.specs.Sources.{namesOf, viewOf}
+use Rattle.grammar.specs.Sources.{viewOf}
 use Rattle.parser.specs.Trees.{put}
 use Rattle.parser.specs.declared.Step.{Step}
 use Rattle.parser.specs.declared.Step.the-variants.{Read, Refused}
@@ -45,9 +46,9 @@ abbrev pub Reads17 : List ℕ → List ℕ → Names → ℕ → ℕ → List Sy
 Reads17 source tokens e n least =
     Reads productions17 (viewOf language17 source (rowsOf tokens)) (tokenRoom tokens) e n least 0
 
--- the names in force
+-- the names in force, by a prepared list and the tokens of a table
 abbrev pub namesIn : List ℕ → List ℕ → List ℕ → Scope → Names
-namesIn source names tokens scope = inForce scope (namesOf language17 source names (rowsOf tokens))
+namesIn source names tokens scope = inForce scope (preparedNames (language17 .opening) names (items source (rowsOf tokens)))
 
 -- a reader of the nonterminal x ..
 abbrev pub ReadsIn : List ℕ → List ℕ → List ℕ → Scope → ℕ → ℕ → ℕ → Step → List ℕ → Step → List ℕ → Type 0

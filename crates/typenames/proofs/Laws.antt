@@ -2,5 +2,8 @@
 pub mod Entries
 pub mod Texts
 pub mod Compared
-pub mod Named
 pub mod Declared
+pub mod Named
+pub mod Slots
+pub mod Marks
+pub mod Prepared

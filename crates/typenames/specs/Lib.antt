@@ -2,3 +2,5 @@
 pub mod NameList
 pub mod TypeNames
 pub mod Pairs
+pub mod Declarations
+pub mod Prepared

@@ -1,14 +1,18 @@
 // The type names of a source: the list of extra names, which a caller lends beside the source, and the names that the source declares.
 mod compare;
 mod declarations;
+mod filter;
 mod list;
 mod names;
+mod prepared;
 mod text;
 
 pub use compare::same_name;
+pub use filter::SLOTS;
 pub use list::NAME_LIMIT;
 pub use list::check_names;
 pub use names::is_type_name;
+pub use prepared::prepare;
 pub use text::text_at;
 
 // Whether a list of names is good, or the refusal's number and place.

@@ -1,44 +1,34 @@
+-- `desk::answer` meets its contract. Assumes nothing.
 use mathlib.Core.Path.{refl, ap}
 use borrow.Author.Tests.{lt-ltb, le-ltb}
 use Rattle.grammar.specs.Answers.{Result}
 use Rattle.desk.specs.Desk.{deskResult}
-use native.Mathlib.Omega.{arith}
 use borrow.Author.Needs.{needs}
 use Rattle.desk.proofs.answer.Statement.{statement}
 use Rattle.desk.proofs.answer.Tie as tie
-use Rattle.desk.proofs.answer.Reads as reads
-use Rattle.desk.proofs.answer.Lts as lts
-use Rattle.nurl.proofs.read.Reads as read-reads
 
--- src/main.rt:22:9
 returns : tie.Need-returns
 unfolding deskResult
 returns c =
     rw (lt-ltb _ _ (c .if1 .taken)) (refl, refl)
 
--- src/main.rt:24:24
 slice-aggregate-read : tie.Need-slice-aggregate-read
 slice-aggregate-read c = search needs
 
--- src/main.rt:24:5
 read-requires : tie.Need-read-requires
 read-requires c κs = search needs
 
--- src/main.rt:17:1
 same-length : tie.Need-same-length
 same-length c = search needs
 
--- src/main.rt:17:1
 same-length-2 : tie.Need-same-length-2
 same-length-2 c = search needs
 
--- src/main.rt:17:1
 returns-2 : tie.Need-returns-2
 unfolding deskResult
 returns-2 c =
     let read = c .before .before .before .before .read in
     let if1 = c .before .before .before .before .before .before .before .before .if1 in
-    
     let same = read .ensures .0 in
     rw (le-ltb _ _ (if1 .left)) (ap (λ (r : Result). r .answer) same, ap (λ (r : Result). r .rows) same)
 

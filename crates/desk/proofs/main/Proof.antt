@@ -1,107 +1,78 @@
+-- `desk::main` is safe and ends. Assumes nothing.
 use mathlib.Core.Path.{sym, _∙_}
 use native.Mathlib.Omega.{arith}
 use lib.Seq.{length-take-le}
 use Rattle.nurl.proofs.Laws.Texts.{fits-whole}
-use native.Mathlib.Omega.{arith}
 use borrow.Author.Needs.{needs}
 use Rattle.desk.proofs.main.Statement.{statement}
 use Rattle.desk.proofs.main.Tie as tie
-use Rattle.desk.proofs.main.Reads as reads
-use Rattle.desk.proofs.main.Lts as lts
-use Rattle.desk.proofs.output_buffer.Reads as output-buffer-reads
-use Rattle.desk.proofs.reply.Reads as reply-reads
-use Rattle.desk.proofs.script_buffer.Reads as script-buffer-reads
-use Rattle.desk.proofs.token_table.Reads as token-table-reads
-use Rattle.desk.proofs.tree_table.Reads as tree-table-reads
-use Rattle.io.proofs.read_full.Reads as read-full-reads
-use Rattle.io.proofs.write_all.Reads as write-all-reads
 
--- src/main.rt:67:22
 script-buffer-requires : tie.Need-script-buffer-requires
 script-buffer-requires c κs = search needs
 
--- src/main.rt:68:22
 token-table-requires : tie.Need-token-table-requires
 token-table-requires c κs = search needs
 
--- src/main.rt:69:20
 tree-table-requires : tie.Need-tree-table-requires
 tree-table-requires c κs = search needs
 
--- src/main.rt:70:22
 output-buffer-requires : tie.Need-output-buffer-requires
 output-buffer-requires c κs = search needs
 
--- src/main.rt:71:33
 slice-aggregate-read-full : tie.Need-slice-aggregate-read-full
 slice-aggregate-read-full c = search needs
 
--- src/main.rt:71:9
 read-full-requires : tie.Need-read-full-requires
 read-full-requires c κs = search needs
 
--- src/main.rt:72:22
 array-share-prefix-script : tie.Need-array-share-prefix-script
 array-share-prefix-script c = search needs
 
--- src/main.rt:72:22
 slice-aggregate-reply : tie.Need-slice-aggregate-reply
 slice-aggregate-reply c = search needs
 
--- src/main.rt:72:38
 slice-aggregate-reply-2 : tie.Need-slice-aggregate-reply-2
 slice-aggregate-reply-2 c = search needs
 
--- src/main.rt:72:51
 slice-aggregate-reply-3 : tie.Need-slice-aggregate-reply-3
 slice-aggregate-reply-3 c = search needs
 
--- src/main.rt:72:62
 slice-aggregate-reply-4 : tie.Need-slice-aggregate-reply-4
 slice-aggregate-reply-4 c = search needs
 
--- src/main.rt:72:9
 reply-requires : tie.Need-reply-requires
 reply-requires c κs = search needs
 
--- src/main.rt:74:24
 enum-known-text : tie.Need-enum-known-text
 enum-known-text c = search needs
 
--- src/main.rt:75:32
 array-share-prefix-output : tie.Need-array-share-prefix-output
 array-share-prefix-output c =
     let text = c .before .text in
     let reply = c .before .before .before .before .before .before .reply in
     let output-buffer = c .before .before .before .before .before .before .before .before .before .before .before .before .before .before .output-buffer in
-    
     let whole = fits-whole _ _ _ (sym (text .given .1) ∙ reply .ensures .0) in
     let size = output-buffer .ensures in
     omega arith
 
--- src/main.rt:75:32
 slice-aggregate-write-all : tie.Need-slice-aggregate-write-all
 slice-aggregate-write-all c =
     let text = c .before .before .text in
     let reply = c .before .before .before .before .before .before .before .reply in
     let output-buffer = c .before .before .before .before .before .before .before .before .before .before .before .before .before .before .before .output-buffer in
-    
     let whole = fits-whole _ _ _ (sym (text .given .1) ∙ reply .ensures .0) in
     let size = output-buffer .ensures in
     sym (length-take-le _ _ (omega arith))
 
--- src/main.rt:75:13
 write-all-requires : tie.Need-write-all-requires
 write-all-requires c κs = search needs
 
 enum-told : tie.Need-enum-told
 enum-told c = search needs
 
--- src/main.rt:66:1
 returns : tie.Need-returns
 returns c = search needs
 
--- src/main.rt:66:1
 returns-2 : tie.Need-returns-2
 returns-2 c = search needs
 

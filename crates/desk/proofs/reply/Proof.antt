@@ -1,38 +1,27 @@
-use native.Mathlib.Omega.{arith}
+-- `desk::reply` meets its contract. Assumes nothing.
 use borrow.Author.Needs.{needs}
 use Rattle.desk.proofs.reply.Statement.{statement}
 use Rattle.desk.proofs.reply.Tie as tie
-use Rattle.desk.proofs.reply.Reads as reads
-use Rattle.desk.proofs.reply.Lts as lts
-use Rattle.desk.proofs.answer.Reads as answer-reads
-use Rattle.nurl.proofs.write_answer.Reads as write-answer-reads
 
--- src/main.rt:34:9
 answer-requires : tie.Need-answer-requires
 answer-requires c κs = search needs
 
--- src/main.rt:35:5
 write-answer-requires : tie.Need-write-answer-requires
 write-answer-requires c κs = search needs
 
--- src/main.rt:28:1
 same-length : tie.Need-same-length
 same-length c = search needs
 
--- src/main.rt:28:1
 same-length-2 : tie.Need-same-length-2
 same-length-2 c = search needs
 
--- src/main.rt:28:1
 same-length-3 : tie.Need-same-length-3
 same-length-3 c = search needs
 
--- src/main.rt:28:1
 returns : tie.Need-returns
 returns c =
     let answer = c .before .before .before .before .before .before .before .before .before .answer in
     let write-answer = c .before .before .write-answer in
-    
     let found = answer .ensures in
     rw (found .0, found .1) at (write-answer .ensures)
 

@@ -5,9 +5,9 @@ use mathlib.Core.Bool.{Bool, true, false}
 use mathlib.Core.List.{List, [], _∷_, _++_}
 use mathlib.Core.Logic.{_⊎_, inl, inr}
 use native.Mathlib.Omega.{arith}
-use lib.Dec.{leb}
+use lib.Dec.{leb, ltb}
 use lib.ListN.{length, take}
-use borrow.Author.Tests.{leb-true, leb-false, le-ltb}
+use borrow.Author.Tests.{leb-true, leb-false, ltb-false, le-ltb}
 use Rattle.lexer.specs.Tests.{pick}
 use Rattle.lexer.specs.Editions.{edition17}
 use Rattle.lexer.specs.Tokens.{Token, Scan, clean, fault, scan}
@@ -18,7 +18,7 @@ use Rattle.lexer.specs.declared.Scanned.{Scanned}
 use Rattle.lexer.proofs.Laws.Rows.{filled-length, filled-rows}
 use Rattle.lexer.proofs.Laws.Counts.{spelled17}
 use Rattle.lexer.proofs.Laws.Places.{fault-placed}
-use Rattle.typenames.specs.NameList.{checked}
+use Rattle.typenames.specs.NameList.{nameLimit, entries, firstBad, checked}
 use Rattle.typenames.specs.declared.Checked.{Checked}
 use Rattle.typenames.specs.declared.Checked.the-variants.{Good}
 use Rattle.typenames.proofs.Laws.Entries.{checked-two}
@@ -67,6 +67,16 @@ rest-same ts lent tokens rows (ok j rs said) = cases (leb (length rs) (treeRoom 
 own-rows : (ts : List Token) (count : ℕ) (after tokens : List ℕ) → after ≡ filled ts tokens → count ≡ length ts
     → rowsOf (take (count * tokenWidth) after) ≡ ts
 own-rows ts count after tokens table n = rw (table, n) (filled-rows ts tokens)
+
+-- a good list is not too long
+pub good-short : (list : List ℕ) → checked edition17 list ≡ Good → length list ≤ nameLimit
+unfolding checked
+good-short list h = cases (ltb nameLimit (length list)) refl h
+  where
+    cases : (t : Bool) → ltb nameLimit (length list) ≡ t
+        → pick t (Checked.Refused 2 0) (firstBad edition17 0 (entries list)) ≡ Good → length list ≤ nameLimit
+    cases true q h = let z : _≡_ {A = ℕ} 0 1 = cc in absurd (omega arith)
+    cases false q h = ltb-false nameLimit (length list) q
 
 module _ (source names tokens rows : List ℕ) where
   -- both tables as they were, and a refusal

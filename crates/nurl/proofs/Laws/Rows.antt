@@ -6,8 +6,8 @@ use mathlib.Core.Bool.{Bool, true}
 use mathlib.Core.List.{List, [], _∷_, _++_, append-assoc}
 use mathlib.Core.Logic.{_⊎_, inl, inr}
 use native.Mathlib.Omega.{arith}
-use lib.ListN.{length, take, drop, getD, length-append, length-drop, take-append-drop}
-use lib.Seq.{drop-append-le, length-take-le, drop-at}
+use lib.ListN.{length, take, drop, getD, replicate, length-append, take-append-drop, drop-of-length-le}
+use lib.Seq.{drop-append-le, length-take-le, take-at, drop-at}
 use borrow.Author.Tests.{le-leb, lt-leb}
 use Rattle.lexer.specs.Tests.{and, between}
 use Rattle.lexer.specs.Kinds.{firstKind, lastKind}
@@ -17,6 +17,8 @@ use Rattle.lexer.specs.Table.{sourceLimit, tokenRoom, rowsOf, rowAt, kindAt, no
 use Rattle.lexer.proofs.Laws.Counts.{spelled17}
 use Rattle.lexer.proofs.Laws.Rows.{rows-of-length}
 use Rattle.lexer.proofs.Laws.Places.{Inside, Placed, placed-none, placed-more, tokens-placed, tokens-few}
+use Rattle.typenames.specs.TypeNames.{Item, items, opening17}
+use Rattle.typenames.specs.Prepared.{preparedNames}
 use Rattle.typenames.specs.declared.Scope.the-variants.{Program}
 use Rattle.grammar.specs.Grammars.{Names, View}
 use Rattle.grammar.specs.Rows.{Row}
@@ -59,15 +61,17 @@ module _ (rows : List ℕ) where
       ∙ ap (λ (numbers : List ℕ). treeRows rs ++ numbers)
       (sym seam ∙ ap (drop (length rs * treeWidth)) (take-append-drop end rows))
 
-  cleared-whole : (after : List ℕ) → length after ≡ length (take end rows) → cleared (after ++ drop end rows) ≡ cleared rows
+  -- the whole rows cleared, whatever was put into them
+  cleared-whole : (after : List ℕ) → length after ≡ length (take end rows)
+      → cleared (take end (after ++ drop end rows)) ++ drop end (after ++ drop end rows) ≡ cleared rows
   unfolding cleared
   cleared-whole after same =
       let l = length-take-le end rows end-inside in
-      let d = length-drop end rows in
-      let a = length-append after (drop end rows) in
-      let room : treeRoom (after ++ drop end rows) ≡ treeRoom rows = omega arith in
       let here : length after ≡ end = omega arith in
-      rw (room, drop-at after (drop end rows) end here)
+      let room : treeRoom after ≡ treeRoom rows = omega arith in
+      let none = drop-of-length-le after {i = end} (omega arith) in
+      rw (take-at after (drop end rows) end here, drop-at after (drop end rows) end here, room, none)
+      (append-assoc (replicate end 0) [] (drop end rows))
 
 -- what a reader of some symbols says, from the first token and row on
 module _ (v : View) (count : ℕ) (e : Names) (n : ℕ) (table after : List ℕ) where
@@ -113,6 +117,21 @@ module _ (v : View) (count : ℕ) (e : Names) (n : ℕ) (table after : List ℕ)
       let seven : number ≡ 7 = cc in
       record { says = inr (seven, rw (← far) (subst (λ (i : ℕ). Gives productions17 v e n (whole program) i (deep place)) at g)); same-length = l }
   stopped-at from to (passed l) start number place goal = let z : _≡_ {A = ℕ} 0 1 = cc in absurd (omega arith)
+
+-- a part that was lent comes back with its length, at the front
+pub kept-size : (part table : List ℕ) (size : ℕ) → length part ≡ length (take size table) → size ≤ length table → length part ≡ size
+kept-size part table size kept inside = kept ∙ length-take-le size table inside
+
+pub front-inside : (part rest : List ℕ) (size : ℕ) → length part ≡ size → size ≤ length (part ++ rest)
+front-inside part rest size l = let a = length-append part rest in omega arith
+
+pub front-counts : (part rest : List ℕ) (size : ℕ) → length part ≡ size → size ≡ length (take size (part ++ rest))
+front-counts part rest size l = rw (take-at part rest size l) (sym l)
+
+-- what is lent of the prepared list is all of it
+pub lent-names : (prepared rest : List ℕ) (size : ℕ) (ts : List Item) (e : Names) → length prepared ≡ size
+    → preparedNames opening17 prepared ts ≡ e → preparedNames opening17 (take size (prepared ++ rest)) ts ≡ e
+lent-names prepared rest size ts e l h = rw (take-at prepared rest size l) h
 
 -- each token of a source is of a kind of document 01
 kind-between : (k : ℕ) → firstKind ≤ k → k ≤ lastKind → between firstKind lastKind k ≡ true
@@ -166,20 +185,27 @@ module _ (source names tokens : List ℕ) (short : length source ≤ sourceLimit
     full-by : (count needed : ℕ) (rs : List Row) → readTokens language17 levelLimit source names (rowsOf tokens) ≡ ok count rs 0
         → needed ≡ length rs → after ≡ put 0 rs (take (end rows) rows) → treeRoom rows < needed
         → (Refused 8 needed ≡ treeResult source names tokens rows .answer)
-        × (cleared (after ++ drop (end rows) rows) ≡ treeResult source names tokens rows .rows)
+        × (cleared (take (end rows) (after ++ drop (end rows) rows)) ++ drop (end rows) (after ++ drop (end rows) rows) ≡ treeResult source names tokens rows .rows)
     unfolding judged result
     full-by count needed rs said enough there room =
         let over : treeRoom rows < length rs = omega arith in
         let same = ap length there ∙ length-put 0 rs (take (end rows) rows) in
         rw (said, lt-leb (length rs) (treeRoom rows) over, enough) (refl, cleared-whole rows after same)
 
-    -- from the reader's answer, with so much room
-    module _ (room : ℕ) (is-room : room ≡ treeRoom rows) (step : Step)
-        (whole-reads : ReadsWhole source names tokens Program levelLimit (take (room * treeWidth) rows) step after)
+    -- from the reader's answer, with a prepared list that gives the names, and with so much room
+    module _ (prepared : List ℕ) (named : preparedNames opening17 prepared (items source (rowsOf tokens)) ≡ e)
+        (room : ℕ) (is-room : room ≡ treeRoom rows) (step : Step)
+        (whole-reads : ReadsWhole source prepared tokens Program levelLimit (take (room * treeWidth) rows) step after)
       where
-        in-room : ReadsWhole source names tokens Program levelLimit (take (end rows) rows) step after
+        in-names : Reads productions17 v (tokenRoom tokens) e levelLimit 0 1 (whole program) (Read 0 0) (take (room * treeWidth) rows) step after
+        in-names =
+            subst (λ (f : Names). Reads productions17 v (tokenRoom tokens) f levelLimit 0 1 (whole program) (Read 0 0)
+            (take (room * treeWidth) rows) step after) named whole-reads
+
+        in-room : Reads productions17 v (tokenRoom tokens) e levelLimit 0 1 (whole program) (Read 0 0) (take (end rows) rows) step after
         in-room =
-            subst (λ (m : ℕ). ReadsWhole source names tokens Program levelLimit (take (m * treeWidth) rows) step after) is-room whole-reads
+            subst (λ (m : ℕ). Reads productions17 v (tokenRoom tokens) e levelLimit 0 1 (whole program) (Read 0 0)
+            (take (m * treeWidth) rows) step after) is-room in-names
 
         read-rows : (count needed : ℕ) → step ≡ Read count needed → ReadTo v (tokenRoom tokens) e levelLimit (take (end rows) rows) after count needed
         read-rows count needed h = read-to v (tokenRoom tokens) e levelLimit (take (end rows) rows) after (Read 0 0) step in-room refl count needed h
@@ -200,14 +226,14 @@ module _ (source names tokens : List ℕ) (short : length source ≤ sourceLimit
 
         pub full-rows : (count needed : ℕ) → step ≡ Read count needed → room < needed
             → (Refused 8 needed ≡ treeResult source names tokens rows .answer)
-            × (cleared (after ++ drop (room * treeWidth) rows) ≡ treeResult source names tokens rows .rows)
+            × (cleared (take (room * treeWidth) (after ++ drop (room * treeWidth) rows)) ++ drop (room * treeWidth) (after ++ drop (room * treeWidth) rows) ≡ treeResult source names tokens rows .rows)
         full-rows count needed h over =
             let to = read-rows count needed h in
             rw is-room (full-by count needed (to .row-list) (reads-ok count needed h) (to .enough) (to .put-there) (omega arith))
 
         pub refused-rows : (number place : ℕ) → step ≡ Step.Refused number place
             → (Refused number place ≡ treeResult source names tokens rows .answer)
-            × (cleared (after ++ drop (room * treeWidth) rows) ≡ treeResult source names tokens rows .rows)
+            × (cleared (take (room * treeWidth) (after ++ drop (room * treeWidth) rows)) ++ drop (room * treeWidth) (after ++ drop (room * treeWidth) rows) ≡ treeResult source names tokens rows .rows)
         unfolding judged result
         refused-rows number place h =
             let stopped = stopped-at v (tokenRoom tokens) e levelLimit (take (end rows) rows) after (Read 0 0) step in-room refl number place h in
@@ -215,9 +241,9 @@ module _ (source names tokens : List ℕ) (short : length source ≤ sourceLimit
           where
             cases : ((number ≡ 6) × (Gives productions17 v e levelLimit (whole program) 0 (stuck place)))
                 ⊎ ((number ≡ 7) × (Gives productions17 v e levelLimit (whole program) 0 (deep place)))
-                → cleared (after ++ drop (end rows) rows) ≡ cleared rows
+                → cleared (take (end rows) (after ++ drop (end rows) rows)) ++ drop (end rows) (after ++ drop (end rows) rows) ≡ cleared rows
                 → (Refused number place ≡ treeResult source names tokens rows .answer)
-                × (cleared (after ++ drop (end rows) rows) ≡ treeResult source names tokens rows .rows)
+                × (cleared (take (end rows) (after ++ drop (end rows) rows)) ++ drop (end rows) (after ++ drop (end rows) rows) ≡ treeResult source names tokens rows .rows)
             cases (inl (six, g)) clear =
                 let said = reads (stuck place) g (λ (z : stuck place ≡ spent). let q : _≡_ {A = ℕ} 0 1 = cc in omega arith) in
                 rw (said, six) (refl, clear)

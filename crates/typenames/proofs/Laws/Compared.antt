@@ -6,12 +6,13 @@ use mathlib.Core.Path.{_≡_, refl, sym, _∙_, ap}
 use mathlib.Core.Bool.{Bool, true, false}
 use mathlib.Core.List.{List, [], _∷_}
 use native.Mathlib.Omega.{arith}
-use borrow.Author.Tests.{eq-eqb, ne-eqb}
+use lib.Dec.{eqb}
+use borrow.Author.Tests.{eqb-true, eq-eqb, ne-eqb}
 use lib.ListN.{length, drop, getD}
-use Rattle.lexer.specs.Tests.{and, or, pick}
+use Rattle.lexer.specs.Tests.{or, pick}
 use Rattle.lexer.specs.Spellings.{same}
 use Rattle.lexer.specs.Words.{twoColons, asName, sameName}
-use Rattle.lexer.proofs.Laws.Tests.{and-false, and-true, and-left}
+use Rattle.lexer.proofs.Laws.Tests.{and-false, and-true, and-left, and-right}
 use Rattle.lexer.proofs.Laws.Fronts.{front-none, front-one}
 use Rattle.typenames.specs.Pairs.{readAt, insideAfter}
 
@@ -28,12 +29,16 @@ name-length (a ∷ b ∷ s) =
     pick-length (twoColons (a ∷ b ∷ [])) (code "_" ∷ code "_" ∷ asName s) (a ∷ asName (b ∷ s)) (suc (suc (length s)))
     (ap (λ (n : ℕ). suc (suc n)) (name-length s)) (ap suc (name-length (b ∷ s)))
 
-same-length : (v w : List ℕ) → same v w ≡ true → length v ≡ length w
+-- the same bytes are one list
+pub same-equal : (v w : List ℕ) → same v w ≡ true → v ≡ w
 unfolding same
-same-length [] [] h = refl
-same-length [] (b ∷ t) h = let z : _≡_ {A = ℕ} 0 1 = cc in absurd (omega arith)
-same-length (a ∷ s) [] h = let z : _≡_ {A = ℕ} 0 1 = cc in absurd (omega arith)
-same-length (a ∷ s) (b ∷ t) h = ap suc (same-length s t (and-left _ _ h))
+same-equal [] [] h = refl
+same-equal [] (b ∷ t) h = let z : _≡_ {A = ℕ} 0 1 = cc in absurd (omega arith)
+same-equal (a ∷ s) [] h = let z : _≡_ {A = ℕ} 0 1 = cc in absurd (omega arith)
+same-equal (a ∷ s) (b ∷ t) h =
+    let front = eqb-true b a (and-right (same s t) (eqb b a) h) in
+    let rest = same-equal s t (and-left (same s t) (eqb b a) h) in
+    cc
 
 -- names of different lengths are not the same
 pub lengths-differ : (v w : List ℕ) → (length v ≡ length w → ⊥) → sameName v w ≡ false
@@ -42,7 +47,7 @@ lengths-differ v w h = cases (same (asName v) (asName w)) refl
   where
     cases : (t : Bool) → same (asName v) (asName w) ≡ t → same (asName v) (asName w) ≡ false
     cases false e = e
-    cases true e = absurd (h (sym (name-length v) ∙ same-length (asName v) (asName w) e ∙ name-length w))
+    cases true e = absurd (h (sym (name-length v) ∙ ap length (same-equal (asName v) (asName w) e) ∙ name-length w))
 
 -- what some bytes are read as, where the first of them may end a `::`
 pub readFrom : Bool → List ℕ → List ℕ

@@ -93,6 +93,21 @@ module _ (list : List ℕ) (at : ℕ) where
   abbrev pub entryHere : List ℕ
   entryHere = take lineLength (drop at list)
 
+  -- .. and where the line ends the list, it is the only one; where not, the others begin behind the byte 10
+  pub entry-last : at ≤ length list → at + lineLength ≡ length list → split (drop at list) ≡ entryHere ∷ []
+  entry-last h end =
+      let d = drop at list in
+      let l = length-drop at list in
+      let all : lineLength ≡ length d = omega arith in
+      rw (split-last d all, all, take-length d)
+
+  pub entry-more : at + lineLength < length list → split (drop at list) ≡ entryHere ∷ split (drop (at + lineLength + 1) list)
+  entry-more h =
+      let d = drop at list in
+      let l = length-drop at list in
+      let below : lineLength < length d = omega arith in
+      rw (split-more d below, drop-drop, ← add-one lineLength, ← add-assoc at lineLength 1)
+
 -- the answer from a place on, by the entry there
 module _ (e : Edition) (list : List ℕ) (at : ℕ) where
   pub bad-here : isName e (entryHere list at) ≡ false
@@ -103,22 +118,14 @@ module _ (e : Edition) (list : List ℕ) (at : ℕ) where
   pub good-last : at ≤ length list → at + lineLength list at ≡ length list → isName e (entryHere list at) ≡ true
       → firstBad e at (split (drop at list)) ≡ Good
   unfolding firstBad
-  good-last h end n =
-      let d = drop at list in
-      let l = length-drop at list in
-      let all : lineLength list at ≡ length d = omega arith in
-      let name : isName e d ≡ true = rw (all, take-length d) at n in
-      rw (split-last d all, name)
+  good-last h end n = rw (entry-last list at h end, n)
 
   pub good-here : at + lineLength list at < length list → isName e (entryHere list at) ≡ true
       → firstBad e at (split (drop at list)) ≡ firstBad e (at + lineLength list at + 1) (split (drop (at + lineLength list at + 1) list))
   unfolding firstBad
   good-here h n =
-      let d = drop at list in
       let l = length-drop at list in
-      let size = lineLength list at in
-      let below : size < length d = omega arith in
-      rw (split-more d below, n, length-take-le size d (omega arith), drop-drop, ← add-one size, ← add-assoc at size 1)
+      rw (entry-more list at h, n, length-take-le (lineLength list at) (drop at list) (omega arith))
 
 -- a refusal of a list is number 2
 module _ (e : Edition) where

@@ -1,66 +1,51 @@
+-- `nurl::exports::nurl_read` meets its contract: every number of the answer has 32 bits. Assumes nothing.
 use mathlib.Core.Path.{sym, _∙_, ap}
 use native.Mathlib.Omega.{arith}
 use Rattle.grammar.specs.Answers.{Result, values}
 use Rattle.nurl.proofs.Laws.Numbers.{refused-small, accepted-small}
-use native.Mathlib.Omega.{arith}
 use borrow.Author.Needs.{needs}
 use Rattle.nurl.proofs.exports.nurl_read.Statement.{statement}
 use Rattle.nurl.proofs.exports.nurl_read.Tie as tie
-use Rattle.nurl.proofs.exports.nurl_read.Reads as reads
-use Rattle.nurl.proofs.exports.nurl_read.Lts as lts
-use Rattle.nurl.proofs.reading.read.Reads as read-reads
 
--- src/exports.rt:18:9
 read-requires : tie.Need-read-requires
 read-requires c κs = search needs
 
--- src/exports.rt:20:26
 enum-known-found : tie.Need-enum-known-found
 enum-known-found c = search needs
 
--- src/exports.rt:21:27
 cast-t15 : tie.Need-cast-t15
 cast-t15 c =
     let args = c .before .before .before .before .before .before .before .before .before .before .before .before .before .before .args in
     let read = c .before .before .before .before .before .before .before .read in
     let found = c .before .found in
-    let args = args in
     let small = accepted-small (args .source .now) (args .names .now) (args .tokens .now) (args .rows .now) _ (read .ensures .1) _ _ (found .given .1) in
     omega (arith, small .0)
 
--- src/exports.rt:21:47
 cast-t16 : tie.Need-cast-t16
 cast-t16 c =
     let args = c .before .before .before .before .before .before .before .before .before .before .before .before .before .before .args in
     let read = c .before .before .before .before .before .before .before .read in
     let found = c .before .found in
-    let args = args in
     let small = accepted-small (args .source .now) (args .names .now) (args .tokens .now) (args .rows .now) _ (read .ensures .1) _ _ (found .given .1) in
     omega (arith, small .1)
 
--- src/exports.rt:23:25
 enum-known-found-2 : tie.Need-enum-known-found-2
 enum-known-found-2 c = search needs
 
--- src/exports.rt:24:32
 cast-t17 : tie.Need-cast-t17
 cast-t17 c =
     let args = c .before .before .before .before .before .before .before .before .before .before .before .before .before .before .args in
     let read = c .before .before .before .before .before .before .before .read in
     let found2 = c .before .found2 in
-    let args = args in
     let small = refused-small (args .source .now) (args .names .now) (args .tokens .now) (args .rows .now) _ (read .ensures .1) _ _ (found2 .given .1) in
     omega arith
 
--- src/exports.rt:9:1
 same-length : tie.Need-same-length
 same-length c = search needs
 
--- src/exports.rt:9:1
 same-length-2 : tie.Need-same-length-2
 same-length-2 c = search needs
 
--- src/exports.rt:9:1
 returns : tie.Need-returns
 unfolding values
 returns c =
@@ -71,15 +56,12 @@ returns c =
       (ap (λ (r : Result). r .tokens) same, ap (λ (r : Result). r .rows) same),
     )
 
--- src/exports.rt:9:1
 same-length-3 : tie.Need-same-length-3
 same-length-3 c = search needs
 
--- src/exports.rt:9:1
 same-length-4 : tie.Need-same-length-4
 same-length-4 c = search needs
 
--- src/exports.rt:9:1
 returns-2 : tie.Need-returns-2
 unfolding values
 returns-2 c =

@@ -1,51 +1,37 @@
+-- `nurl::reading::read` meets its contract: document 01's refusals in their order. Assumes nothing.
 use mathlib.Core.Path.{sym, _∙_}
 use native.Mathlib.Omega.{arith}
 use lib.Seq.{length-take-le}
 use Rattle.nurl.proofs.Laws.Results.{meets, refused-long, refused-names, refused-tokens, lent-inside, lent-after, lent-scan}
-use Rattle.nurl.proofs.Laws.Results.{read-rest}
-use native.Mathlib.Omega.{arith}
+use Rattle.nurl.proofs.Laws.Results.{good-short, read-rest}
 use borrow.Author.Needs.{needs}
 use Rattle.nurl.proofs.reading.read.Statement.{statement}
 use Rattle.nurl.proofs.reading.read.Tie as tie
-use Rattle.nurl.proofs.reading.read.Reads as reads
-use Rattle.nurl.proofs.reading.read.Lts as lts
-use Rattle.lexer.proofs.tokenize.Reads as tokenize-reads
-use Rattle.nurl.proofs.reading.read_tokens.Reads as read-tokens-reads
-use Rattle.typenames.proofs.check_names.Reads as check-names-reads
 
--- src/reading.rt:58:9
 returns : tie.Need-returns
 returns c =
     let args = c .before .before .before .before .before .args in
-    let args = args in
     meets (args .source .now) (args .names .now) (args .tokens .now) (args .rows .now) _
     (refused-long (args .source .now) (args .names .now) (args .tokens .now) (args .rows .now) (c .if1 .taken))
 
--- src/reading.rt:60:9
 check-names-requires : tie.Need-check-names-requires
 check-names-requires c κs = search needs
 
--- src/reading.rt:62:26
 enum-known-checked : tie.Need-enum-known-checked
 enum-known-checked c = search needs
 
--- src/reading.rt:64:51
 enum-told : tie.Need-enum-told
 enum-told c = search needs
 
--- src/reading.rt:64:17
 tokenize-requires : tie.Need-tokenize-requires
 tokenize-requires c κs = search needs
 
--- src/reading.rt:66:34
 enum-known-scanned : tie.Need-enum-known-scanned
 enum-known-scanned c = search needs
 
--- src/reading.rt:67:33
 enum-known-scanned-2 : tie.Need-enum-known-scanned-2
 enum-known-scanned-2 c = search needs
 
--- src/reading.rt:68:31
 mul-end : tie.Need-mul-end
 mul-end c =
     let args = c .before .before .before .before .before .before .before .before .before .before .before .before .before .before .before .args in
@@ -54,14 +40,12 @@ mul-end c =
     let tokenize = c .before .before .before .before .before .tokenize in
     let scanned2 = c .before .scanned2 in
     let if1 = c .before .before .before .before .before .before .before .before .before .before .if1 in
-    let args = args in
     let good = sym (check-names .ensures) ∙ enum-told .given .1 in
     let said = sym (tokenize .ensures .0) ∙ scanned2 .given .1 in
     let inside = lent-inside (args .source .now) (args .names .now) (args .tokens .now) (args .rows .now) (if1 .left) good _ _ said
     (tokenize .ensures .1) in
     omega arith
 
--- src/reading.rt:69:48
 slice-reshare-prefix-read-tokens : tie.Need-slice-reshare-prefix-read-tokens
 slice-reshare-prefix-read-tokens c =
     let args = c .before .before .before .before .before .before .before .before .before .before .before .before .before .before .before .args in
@@ -70,12 +54,10 @@ slice-reshare-prefix-read-tokens c =
     let tokenize = c .before .before .before .before .before .tokenize in
     let scanned2 = c .before .scanned2 in
     let if1 = c .before .before .before .before .before .before .before .before .before .before .if1 in
-    let args = args in
     let good = sym (check-names .ensures) ∙ enum-told .given .1 in
     let said = sym (tokenize .ensures .0) ∙ scanned2 .given .1 in
     lent-after (args .source .now) (args .names .now) (args .tokens .now) (args .rows .now) (if1 .left) good _ _ said (tokenize .ensures .1)
 
--- src/reading.rt:69:48
 slice-aggregate-read-tokens : tie.Need-slice-aggregate-read-tokens
 slice-aggregate-read-tokens c =
     let args = c .before .before .before .before .before .before .before .before .before .before .before .before .before .before .before .before .args in
@@ -84,13 +66,11 @@ slice-aggregate-read-tokens c =
     let tokenize = c .before .before .before .before .before .before .tokenize in
     let scanned2 = c .before .before .scanned2 in
     let if1 = c .before .before .before .before .before .before .before .before .before .before .before .if1 in
-    let args = args in
     let good = sym (check-names .ensures) ∙ enum-told .given .1 in
     let said = sym (tokenize .ensures .0) ∙ scanned2 .given .1 in
     sym (length-take-le _ _
     (lent-after (args .source .now) (args .names .now) (args .tokens .now) (args .rows .now) (if1 .left) good _ _ said (tokenize .ensures .1)))
 
--- src/reading.rt:69:21
 read-tokens-requires : tie.Need-read-tokens-requires
 read-tokens-requires c κs =
     let args = c .before .before .before .before .before .before .before .before .before .before .before .before .before .before .before .before .before .args in
@@ -99,30 +79,28 @@ read-tokens-requires c κs =
     let tokenize = c .before .before .before .before .before .before .before .tokenize in
     let scanned2 = c .before .before .before .scanned2 in
     let if1 = c .before .before .before .before .before .before .before .before .before .before .before .before .if1 in
-    let args = args in
     let good = sym (check-names .ensures) ∙ enum-told .given .1 in
     let said = sym (tokenize .ensures .0) ∙ scanned2 .given .1 in (
       if1 .left,
-      lent-scan (args .source .now) (args .names .now) (args .tokens .now) (args .rows .now) (if1 .left) good _ _ said (tokenize .ensures .1),
+      (
+        good-short (args .names .now) good,
+        lent-scan (args .source .now) (args .names .now) (args .tokens .now) (args .rows .now) (if1 .left) good _ _ said (tokenize .ensures .1),
+      ),
     )
 
--- src/reading.rt:50:1
 returns-2 : tie.Need-returns-2
 returns-2 c =
     let args = c .before .before .before .before .before .before .before .before .before .args in
     let if1 = c .before .before .before .before .if1 in
     let check-names = c .before .before .before .check-names in
     let checked = c .before .checked in
-    let args = args in
     meets (args .source .now) (args .names .now) (args .tokens .now) (args .rows .now) _
     (refused-names (args .source .now) (args .names .now) (args .tokens .now) (args .rows .now) _ _ (if1 .left)
     (sym (check-names .ensures) ∙ checked .given .1))
 
--- src/reading.rt:50:1
 same-length : tie.Need-same-length
 same-length c = search needs
 
--- src/reading.rt:50:1
 returns-3 : tie.Need-returns-3
 returns-3 c =
     let args = c .before .before .before .before .before .before .before .before .before .before .before .before .before .before .before .args in
@@ -131,22 +109,18 @@ returns-3 c =
     let tokenize = c .before .before .before .before .before .tokenize in
     let scanned = c .before .scanned in
     let if1 = c .before .before .before .before .before .before .before .before .before .before .if1 in
-    let args = args in
     let good = sym (check-names .ensures) ∙ enum-told .given .1 in
     let said = sym (tokenize .ensures .0) ∙ scanned .given .1 in
     meets (args .source .now) (args .names .now) (args .tokens .now) (args .rows .now) _
     (refused-tokens (args .source .now) (args .names .now) (args .tokens .now) (args .rows .now) (if1 .left) good _ _ _ said
     (tokenize .ensures .1))
 
--- src/reading.rt:50:1
 same-length-2 : tie.Need-same-length-2
 same-length-2 c = search needs
 
--- src/reading.rt:50:1
 same-length-3 : tie.Need-same-length-3
 same-length-3 c = search needs
 
--- src/reading.rt:50:1
 returns-4 : tie.Need-returns-4
 returns-4 c =
     let args = c .before .before .before .before .before .before .before .before .before .before .before .before .before .before .before .before .before .before .before .before .args in
@@ -156,7 +130,6 @@ returns-4 c =
     let scanned2 = c .before .before .before .before .before .before .scanned2 in
     let if1 = c .before .before .before .before .before .before .before .before .before .before .before .before .before .before .before .if1 in
     let read-tokens = c .before .before .read-tokens in
-    let args = args in
     let good = sym (check-names .ensures) ∙ enum-told .given .1 in
     let said = sym (tokenize .ensures .0) ∙ scanned2 .given .1 in
     meets (args .source .now) (args .names .now) (args .tokens .now) (args .rows .now) _

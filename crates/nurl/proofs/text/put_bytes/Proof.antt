@@ -1,3 +1,4 @@
+-- `nurl::text::put_bytes` meets its contract. The loop's invariant: the bytes passed are written. Assumes nothing.
 use Prim.Native.Nat.{_-_, _≤_}
 use mathlib.Core.Path.{_≡_, refl, _∙_}
 use native.Mathlib.Omega.{arith}
@@ -7,12 +8,8 @@ use lib.Seq.{take-suc, take-length}
 use Rattle.nurl.specs.Texts.{Appends}
 use Rattle.nurl.proofs.Laws.Texts.{appends-nothing, appends-append}
 use borrow.Author.Needs.{needs}
-use native.Mathlib.Omega.{arith}
 use Rattle.nurl.proofs.text.put_bytes.Statement.{statement}
 use Rattle.nurl.proofs.text.put_bytes.Tie as tie
-use Rattle.nurl.proofs.text.put_bytes.Reads as reads
-use Rattle.nurl.proofs.text.put_bytes.Lts as lts
-use Rattle.nurl.proofs.text.put_byte.Reads as put-byte-reads
 
 abbrev Inv-loop : tie.InvT-loop
 Inv-loop output₀ text to₀ i₀ output to i =
@@ -21,27 +18,21 @@ Inv-loop output₀ text to₀ i₀ output to i =
 abbrev μ-loop : tie.MeasureT-loop
 μ-loop output₀ text to₀ i₀ output to i = length text - i
 
--- src/text.rt:38:5
 loop-holds : tie.Need-loop-holds Inv-loop μ-loop
 loop-holds c = (appends-nothing _ _, (refl, omega arith))
 
--- src/text.rt:39:35
 shared-slice-read-put-byte : tie.Need-shared-slice-read-put-byte Inv-loop μ-loop
 shared-slice-read-put-byte c = search needs
 
--- src/text.rt:39:9
 put-byte-requires : tie.Need-put-byte-requires Inv-loop μ-loop
 put-byte-requires c κs = search needs
 
--- src/text.rt:40:9
 add-i : tie.Need-add-i Inv-loop μ-loop
 add-i c = search needs
 
--- src/text.rt:38:5
 loop-less : tie.Need-loop-less Inv-loop μ-loop
 loop-less c = search needs
 
--- src/text.rt:38:5
 loop-again : tie.Need-loop-again Inv-loop μ-loop
 loop-again c =
     let loop = c .before .before .before .before .before .before .loop in
@@ -55,13 +46,11 @@ loop-again c =
     let more = take-suc text i 0 inside in
     (rw (add-one i, more) (appends-append _ _ _ _ _ _ _ _ (inv .0) (put-byte .ensures)), (put-byte .kept .0 ∙ inv .1 .0, omega arith))
 
--- src/text.rt:33:1
 same-length : tie.Need-same-length Inv-loop μ-loop
 same-length c =
     let loop = c .before .loop in
     loop .inv .1 .0
 
--- src/text.rt:33:1
 returns : tie.Need-returns Inv-loop μ-loop
 returns c =
     let loop = c .before .loop in

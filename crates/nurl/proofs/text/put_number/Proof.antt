@@ -1,26 +1,18 @@
+-- `nurl::text::put_number` meets its contract. Assumes nothing.
 use Rattle.nurl.proofs.Laws.Texts.{appends-append}
-use native.Mathlib.Omega.{arith}
 use borrow.Author.Needs.{needs}
 use Rattle.nurl.proofs.text.put_number.Statement.{statement}
 use Rattle.nurl.proofs.text.put_number.Tie as tie
-use Rattle.nurl.proofs.text.put_number.Reads as reads
-use Rattle.nurl.proofs.text.put_number.Lts as lts
-use Rattle.nurl.proofs.text.put_byte.Reads as put-byte-reads
-use Rattle.nurl.proofs.text.put_decimal.Reads as put-decimal-reads
 
--- src/text.rt:67:9
 put-decimal-requires : tie.Need-put-decimal-requires
 put-decimal-requires c κs = search needs
 
--- src/text.rt:68:5
 put-byte-requires : tie.Need-put-byte-requires
 put-byte-requires c κs = search needs
 
--- src/text.rt:64:1
 same-length : tie.Need-same-length
 same-length c = search needs
 
--- src/text.rt:64:1
 returns : tie.Need-returns
 returns c =
     let put-decimal = c .before .before .before .before .before .before .put-decimal in

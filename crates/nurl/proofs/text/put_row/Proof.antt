@@ -1,107 +1,82 @@
+-- `nurl::text::put_row` meets its contract. Assumes nothing.
 use Prim.Native.Nat.{_+_, _*_}
 use native.Mathlib.Omega.{arith}
 use Rattle.nurl.proofs.Laws.Texts.{appends-append}
-use native.Mathlib.Omega.{arith}
 use borrow.Author.Needs.{needs}
 use Rattle.nurl.proofs.text.put_row.Statement.{statement}
 use Rattle.nurl.proofs.text.put_row.Tie as tie
-use Rattle.nurl.proofs.text.put_row.Reads as reads
-use Rattle.nurl.proofs.text.put_row.Lts as lts
-use Rattle.nurl.proofs.text.put_number.Reads as put-number-reads
 
--- src/text.rt:85:14
 mul-at : tie.Need-mul-at
 mul-at c = search needs
 
--- src/text.rt:86:42
 mul-put-number : tie.Need-mul-put-number
 mul-put-number c = search needs
 
--- src/text.rt:86:42
 shared-slice-read-put-number : tie.Need-shared-slice-read-put-number
 shared-slice-read-put-number c = search needs
 
--- src/text.rt:86:42
 cast-put-number : tie.Need-cast-put-number
 cast-put-number c =
     let args = c .before .before .before .before .args in
     omega (arith, c .shared-slice-known2 .given (args .row * 4))
 
--- src/text.rt:86:9
 put-number-requires : tie.Need-put-number-requires
 put-number-requires c κs = search needs
 
--- src/text.rt:87:49
 add-put-number : tie.Need-add-put-number
 add-put-number c = search needs
 
--- src/text.rt:87:44
 mul-put-number-2 : tie.Need-mul-put-number-2
 mul-put-number-2 c = search needs
 
--- src/text.rt:87:44
 shared-slice-read-put-number-2 : tie.Need-shared-slice-read-put-number-2
 shared-slice-read-put-number-2 c = search needs
 
--- src/text.rt:87:44
 cast-put-number-2 : tie.Need-cast-put-number-2
 cast-put-number-2 c =
     let args = c .before .before .before .before .before .before .before .before .before .args in
     omega (arith, c .shared-slice-known3 .given (args .row * 4 + 1))
 
--- src/text.rt:87:9
 put-number-requires-2 : tie.Need-put-number-requires-2
 put-number-requires-2 c κs = search needs
 
--- src/text.rt:88:49
 add-put-number-2 : tie.Need-add-put-number-2
 add-put-number-2 c = search needs
 
--- src/text.rt:88:44
 mul-put-number-3 : tie.Need-mul-put-number-3
 mul-put-number-3 c = search needs
 
--- src/text.rt:88:44
 shared-slice-read-put-number-3 : tie.Need-shared-slice-read-put-number-3
 shared-slice-read-put-number-3 c = search needs
 
--- src/text.rt:88:44
 cast-put-number-3 : tie.Need-cast-put-number-3
 cast-put-number-3 c =
     let args = c .before .before .before .before .before .before .before .before .before .before .before .before .before .before .args in
     omega (arith, c .shared-slice-known4 .given (args .row * 4 + 2))
 
--- src/text.rt:88:9
 put-number-requires-3 : tie.Need-put-number-requires-3
 put-number-requires-3 c κs = search needs
 
--- src/text.rt:89:36
 add-put-number-3 : tie.Need-add-put-number-3
 add-put-number-3 c = search needs
 
--- src/text.rt:89:31
 mul-put-number-4 : tie.Need-mul-put-number-4
 mul-put-number-4 c = search needs
 
--- src/text.rt:89:31
 shared-slice-read-put-number-4 : tie.Need-shared-slice-read-put-number-4
 shared-slice-read-put-number-4 c = search needs
 
--- src/text.rt:89:31
 cast-put-number-4 : tie.Need-cast-put-number-4
 cast-put-number-4 c =
     let args = c .before .before .before .before .before .before .before .before .before .before .before .before .before .before .before .before .before .before .before .args in
     omega (arith, c .shared-slice-known5 .given (args .row * 4 + 3))
 
--- src/text.rt:89:5
 put-number-requires-4 : tie.Need-put-number-requires-4
 put-number-requires-4 c κs = search needs
 
--- src/text.rt:81:1
 same-length : tie.Need-same-length
 same-length c = search needs
 
--- src/text.rt:81:1
 returns : tie.Need-returns
 returns c =
     let put-number = c .before .before .before .before .before .before .before .before .before .before .before .before .before .before .before .before .before .put-number in

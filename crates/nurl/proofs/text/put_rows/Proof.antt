@@ -1,3 +1,4 @@
+-- `nurl::text::put_rows` meets its contract. The loop's invariant: the lines of the rows passed are written. Assumes nothing.
 use Prim.Native.Nat.{_-_, _≤_, min}
 use mathlib.Core.Path.{_≡_, refl, _∙_}
 use native.Mathlib.Omega.{arith}
@@ -7,13 +8,8 @@ use Rattle.grammar.specs.TreeTable.{treeRoom}
 use Rattle.nurl.specs.Texts.{Appends, rowLines}
 use Rattle.nurl.proofs.Laws.Texts.{appends-nothing, appends-append}
 use borrow.Author.Needs.{needs}
-use native.Mathlib.Omega.{arith}
 use Rattle.nurl.proofs.text.put_rows.Statement.{statement}
 use Rattle.nurl.proofs.text.put_rows.Tie as tie
-use Rattle.nurl.proofs.text.put_rows.Reads as reads
-use Rattle.nurl.proofs.text.put_rows.Lts as lts
-use Rattle.nurl.proofs.text.put_row.Reads as put-row-reads
-use Rattle.parser.proofs.tree.room.Reads as room-reads
 
 abbrev Inv-loop : tie.InvT-loop
 Inv-loop output₀ rows count room to₀ row₀ output to row =
@@ -22,22 +18,18 @@ Inv-loop output₀ rows count room to₀ row₀ output to row =
 abbrev μ-loop : tie.MeasureT-loop
 μ-loop output₀ rows count room to₀ row₀ output to row = count - row
 
--- src/text.rt:97:9
 room-requires : tie.Need-room-requires Inv-loop μ-loop
 room-requires c κs = search needs
 
--- src/text.rt:100:5
 loop-holds : tie.Need-loop-holds Inv-loop μ-loop
 unfolding rowLines
 loop-holds c = (appends-nothing _ _, (refl, (omega arith, omega arith)))
 
--- src/text.rt:102:13
 same-length : tie.Need-same-length Inv-loop μ-loop
 same-length c =
     let loop = c .before .before .loop in
     loop .inv .1 .0
 
--- src/text.rt:102:13
 returns : tie.Need-returns Inv-loop μ-loop
 returns c =
     let loop = c .before .before .loop in
@@ -49,22 +41,18 @@ returns c =
     let all : min (args .count) (treeRoom (args .rows .now)) ≡ loop .row = omega arith in
     rw all (inv .0)
 
--- src/text.rt:104:9
 put-row-requires : tie.Need-put-row-requires Inv-loop μ-loop
 put-row-requires c κs =
     let room = c .before .before .before .before .room in
     let room = room .ensures in
     omega arith
 
--- src/text.rt:105:9
 add-row : tie.Need-add-row Inv-loop μ-loop
 add-row c = search needs
 
--- src/text.rt:100:5
 loop-less : tie.Need-loop-less Inv-loop μ-loop
 loop-less c = search needs
 
--- src/text.rt:100:5
 loop-again : tie.Need-loop-again Inv-loop μ-loop
 unfolding rowLines
 loop-again c =
@@ -77,13 +65,11 @@ loop-again c =
       (put-row .kept .0 ∙ inv .1 .0, (omega arith, omega arith)),
     )
 
--- src/text.rt:93:1
 same-length-2 : tie.Need-same-length-2 Inv-loop μ-loop
 same-length-2 c =
     let loop = c .before .loop in
     loop .inv .1 .0
 
--- src/text.rt:93:1
 returns-2 : tie.Need-returns-2 Inv-loop μ-loop
 returns-2 c =
     let loop = c .before .loop in

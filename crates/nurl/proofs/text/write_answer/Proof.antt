@@ -1,53 +1,38 @@
-use mathlib.Core.Path.{_≡_, refl}
+-- `nurl::text::write_answer` meets its contract. Assumes nothing.
 use Rattle.lexer.specs.Text.{bytes}
 use Rattle.nurl.specs.Texts.{answerText}
 use Rattle.nurl.proofs.Laws.Texts.{appends-append, appends-all}
-use native.Mathlib.Omega.{arith}
 use borrow.Author.Needs.{needs}
 use Rattle.nurl.proofs.text.write_answer.Statement.{statement}
 use Rattle.nurl.proofs.text.write_answer.Tie as tie
-use Rattle.nurl.proofs.text.write_answer.Reads as reads
-use Rattle.nurl.proofs.text.write_answer.Lts as lts
-use Rattle.nurl.proofs.text.put_line.Reads as put-line-reads
-use Rattle.nurl.proofs.text.put_rows.Reads as put-rows-reads
 
--- src/text.rt:116:26
 enum-known-answer : tie.Need-enum-known-answer
 enum-known-answer c = search needs
 
--- src/text.rt:117:60
 slice-aggregate-put-line : tie.Need-slice-aggregate-put-line
 slice-aggregate-put-line c = search needs
 
--- src/text.rt:117:17
 put-line-requires : tie.Need-put-line-requires
 put-line-requires c κs = search needs
 
--- src/text.rt:118:13
 put-rows-requires : tie.Need-put-rows-requires
 put-rows-requires c κs = search needs
 
--- src/text.rt:120:25
 enum-known-answer-2 : tie.Need-enum-known-answer-2
 enum-known-answer-2 c = search needs
 
--- src/text.rt:120:79
 slice-aggregate-put-line-2 : tie.Need-slice-aggregate-put-line-2
 slice-aggregate-put-line-2 c = search needs
 
--- src/text.rt:120:92
 cast-put-line : tie.Need-cast-put-line
 cast-put-line c = search needs
 
--- src/text.rt:120:43
 put-line-requires-2 : tie.Need-put-line-requires-2
 put-line-requires-2 c κs = search needs
 
--- src/text.rt:111:1
 same-length : tie.Need-same-length
 same-length c = search needs
 
--- src/text.rt:111:1
 returns : tie.Need-returns
 unfolding answerText bytes
 returns c =
@@ -57,11 +42,9 @@ returns c =
     rw (answer .given .1)
     (appends-all _ _ _ _ (appends-append _ _ _ _ _ _ _ _ (put-line .ensures) (put-rows .ensures)))
 
--- src/text.rt:111:1
 same-length-2 : tie.Need-same-length-2
 same-length-2 c = search needs
 
--- src/text.rt:111:1
 returns-2 : tie.Need-returns-2
 unfolding answerText bytes
 returns-2 c =
