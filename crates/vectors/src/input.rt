@@ -45,7 +45,7 @@ fn number_at(text: &[u8], at: usize) -> Number
 }
 
 // The case whose header stands at `at`. Where there is none, its end is no place of the text.
-pub fn case_at(text: &[u8], at: usize) -> Case
+pub(crate) fn case_at(text: &[u8], at: usize) -> Case
     requires { ⌜ at ≤ length (now text) ⌝ }
     ensures { λ r. ⌜ at ≤ r .piece ⌝ }
     ensures { λ r. ⌜ r .piece ≤ r .names ⌝ }
@@ -86,7 +86,7 @@ fn copy_into(source: &mut [u8], at: usize, piece: &[u8]) -> usize
 }
 
 // Writes a piece so many times, as much of it as fits, and answers where it ends.
-pub fn repeat_into(source: &mut [u8], piece: &[u8], times: usize) -> usize
+pub(crate) fn repeat_into(source: &mut [u8], piece: &[u8], times: usize) -> usize
     ensures { λ r. ⌜ r ≤ length (now (source .entry)) ⌝ }
 {
     let mut at = 0;

@@ -17,7 +17,7 @@ fn put_byte(out: &mut [u8], at: usize, byte: u8) -> usize {
     0
 }
 
-pub fn put_text(out: &mut [u8], at: usize, text: &[u8]) -> usize {
+pub(crate) fn put_text(out: &mut [u8], at: usize, text: &[u8]) -> usize {
     let mut to = at;
     let mut i = 0;
     while i < text.len() {
@@ -28,7 +28,7 @@ pub fn put_text(out: &mut [u8], at: usize, text: &[u8]) -> usize {
 }
 
 // A number and the byte that stands after it.
-pub fn put_number(out: &mut [u8], at: usize, n: u64, after: u8) -> usize {
+pub(crate) fn put_number(out: &mut [u8], at: usize, n: u64, after: u8) -> usize {
     let mut digits = [0u8; 20];
     let k = io::decimal(n, &mut digits);
     let to = put_text(out, at, &digits[..k]);
@@ -42,7 +42,7 @@ fn put_pair(out: &mut [u8], at: usize, word: &[u8], first: u64, second: u64) -> 
     put_number(out, to, second, b'\n')
 }
 
-pub fn put_answer(out: &mut [u8], at: usize, answer: Answer) -> usize {
+pub(crate) fn put_answer(out: &mut [u8], at: usize, answer: Answer) -> usize {
     match answer {
         Answer::Accepted(tokens, rows) => put_pair(
             out,
@@ -62,7 +62,7 @@ pub fn put_answer(out: &mut [u8], at: usize, answer: Answer) -> usize {
 }
 
 // Writes what stands before the place.
-pub fn flush(out: &[u8], at: usize) {
+pub(crate) fn flush(out: &[u8], at: usize) {
     if at <= out.len() {
         io::write_all(OUT, &out[..at]);
     }

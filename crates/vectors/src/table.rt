@@ -29,7 +29,7 @@ fn filled(filling: Filling, i: usize) -> u32 {
 }
 
 // Makes a table what it is before a case.
-pub fn fill(table: &mut [u32], layout: Layout) {
+pub(crate) fn fill(table: &mut [u32], layout: Layout) {
     let mut i = 0;
     while i < table.len() {
         table[i] = pattern(layout.base, i);
@@ -137,7 +137,7 @@ fn put_whole(out: &mut [u8], at: usize, rows: &[u32], layout: Layout) -> usize
 }
 
 // A table: its whole rows, and the numbers after them on a line.
-pub fn put_table(out: &mut [u8], at: usize, table: &[u32], layout: Layout) -> usize
+pub(crate) fn put_table(out: &mut [u8], at: usize, table: &[u32], layout: Layout) -> usize
     requires { ⌜ 0 < layout .width ⌝ }
 {
     let whole = table.len() - table.len() % layout.width;
