@@ -40,6 +40,10 @@ use Rattle.parser.specs.declared.Step.the-variants.{Read}
 use Rattle.parser.proofs.Laws.Trees.{length-put, put-placed}
 use Rattle.nurl.specs.Results.{treeResult}
 
+-- a table with the whole rows of its first numbers cleared
+abbrev clearedFront : ℕ → List ℕ → List ℕ
+clearedFront size table = cleared (take size table) ++ drop size table
+
 -- the whole rows of a table, and then the numbers past them
 module _ (rows : List ℕ) where
   abbrev end : ℕ
@@ -63,7 +67,7 @@ module _ (rows : List ℕ) where
 
   -- the whole rows cleared, whatever was put into them
   cleared-whole : (after : List ℕ) → length after ≡ length (take end rows)
-      → cleared (take end (after ++ drop end rows)) ++ drop end (after ++ drop end rows) ≡ cleared rows
+      → clearedFront end (after ++ drop end rows) ≡ cleared rows
   unfolding cleared
   cleared-whole after same =
       let l = length-take-le end rows end-inside in
@@ -185,7 +189,7 @@ module _ (source names tokens : List ℕ) (short : length source ≤ sourceLimit
     full-by : (count needed : ℕ) (rs : List Row) → readTokens language17 levelLimit source names (rowsOf tokens) ≡ ok count rs 0
         → needed ≡ length rs → after ≡ put 0 rs (take (end rows) rows) → treeRoom rows < needed
         → (Refused 8 needed ≡ treeResult source names tokens rows .answer)
-        × (cleared (take (end rows) (after ++ drop (end rows) rows)) ++ drop (end rows) (after ++ drop (end rows) rows) ≡ treeResult source names tokens rows .rows)
+        × (clearedFront (end rows) (after ++ drop (end rows) rows) ≡ treeResult source names tokens rows .rows)
     unfolding judged result
     full-by count needed rs said enough there room =
         let over : treeRoom rows < length rs = omega arith in
@@ -226,14 +230,14 @@ module _ (source names tokens : List ℕ) (short : length source ≤ sourceLimit
 
         pub full-rows : (count needed : ℕ) → step ≡ Read count needed → room < needed
             → (Refused 8 needed ≡ treeResult source names tokens rows .answer)
-            × (cleared (take (room * treeWidth) (after ++ drop (room * treeWidth) rows)) ++ drop (room * treeWidth) (after ++ drop (room * treeWidth) rows) ≡ treeResult source names tokens rows .rows)
+            × (clearedFront (room * treeWidth) (after ++ drop (room * treeWidth) rows) ≡ treeResult source names tokens rows .rows)
         full-rows count needed h over =
             let to = read-rows count needed h in
             rw is-room (full-by count needed (to .row-list) (reads-ok count needed h) (to .enough) (to .put-there) (omega arith))
 
         pub refused-rows : (number place : ℕ) → step ≡ Step.Refused number place
             → (Refused number place ≡ treeResult source names tokens rows .answer)
-            × (cleared (take (room * treeWidth) (after ++ drop (room * treeWidth) rows)) ++ drop (room * treeWidth) (after ++ drop (room * treeWidth) rows) ≡ treeResult source names tokens rows .rows)
+            × (clearedFront (room * treeWidth) (after ++ drop (room * treeWidth) rows) ≡ treeResult source names tokens rows .rows)
         unfolding judged result
         refused-rows number place h =
             let stopped = stopped-at v (tokenRoom tokens) e levelLimit (take (end rows) rows) after (Read 0 0) step in-room refl number place h in
@@ -241,9 +245,9 @@ module _ (source names tokens : List ℕ) (short : length source ≤ sourceLimit
           where
             cases : ((number ≡ 6) × (Gives productions17 v e levelLimit (whole program) 0 (stuck place)))
                 ⊎ ((number ≡ 7) × (Gives productions17 v e levelLimit (whole program) 0 (deep place)))
-                → cleared (take (end rows) (after ++ drop (end rows) rows)) ++ drop (end rows) (after ++ drop (end rows) rows) ≡ cleared rows
+                → clearedFront (end rows) (after ++ drop (end rows) rows) ≡ cleared rows
                 → (Refused number place ≡ treeResult source names tokens rows .answer)
-                × (cleared (take (end rows) (after ++ drop (end rows) rows)) ++ drop (end rows) (after ++ drop (end rows) rows) ≡ treeResult source names tokens rows .rows)
+                × (clearedFront (end rows) (after ++ drop (end rows) rows) ≡ treeResult source names tokens rows .rows)
             cases (inl (six, g)) clear =
                 let said = reads (stuck place) g (λ (z : stuck place ≡ spent). let q : _≡_ {A = ℕ} 0 1 = cc in omega arith) in
                 rw (said, six) (refl, clear)
