@@ -1,6 +1,8 @@
--- The class of a byte, which the tokeniser looks up in a table. Nothing but the tokeniser's own leaves speaks of it.
+-- The class of a byte, by which the tokeniser chooses a rule, and the test that runs up to a byte. Nothing but the tokeniser's own
+-- leaves speaks of these.
 use Prim.Native.Char.{code}
 use Prim.Native.Nat.{ℕ}
+use mathlib.Core.Bool.{Bool, not}
 use lib.Dec.{eqb}
 use Rattle.lexer.specs.Tests.{pick}
 use Rattle.lexer.specs.Bytes.{isDigit, isLetter, isSpace}
@@ -15,3 +17,7 @@ classOf b =
     (pick (eqb b (code "-")) 3
     (pick (eqb b (code "/")) 4
     (pick (eqb b (code "`")) 5 6)))))
+
+-- whether a byte is another than the one that ends a run
+abbrev pub isNot : ℕ → ℕ → Bool
+isNot stop b = not (eqb b stop)

@@ -4,13 +4,13 @@ pub mod kinds;
 mod lexemes;
 mod marks;
 mod numbers;
+mod runs;
 mod table;
-mod tables;
 mod tokens;
 mod words;
 
-pub use bytes::run_end;
 pub use lexemes::lexeme_at;
+pub use runs::run_end;
 pub use table::WIDTH;
 pub use table::kind_at;
 pub use table::length_at;

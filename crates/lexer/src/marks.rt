@@ -4,7 +4,8 @@ use crate::bytes;
 use crate::kinds;
 ghost use mathlib.Core.Path.{_≡_};
 ghost use mathlib.Core.List.{[], _∷_};
-ghost use lib.ListN.{drop};
+ghost use Prim.Native.Nat.{_<_};
+ghost use lib.ListN.{length, drop, getD};
 ghost use Rattle.lexer.specs.Spellings.{kindOf};
 ghost use Rattle.lexer.specs.Editions.{edition17};
 ghost use Rattle.lexer.specs.Lexemes.{mark};
@@ -33,21 +34,7 @@ fn pair_kind(first: u8, second: u8) -> u32
     0
 }
 
-// The kind of the mark that three bytes spell, or 0.
-fn triple_kind(first: u8, second: u8, third: u8) -> u32
-    ensures { λ r. ⌜ r ≡ kindOf (edition17 .marks) (first ∷ second ∷ third ∷ []) ⌝ }
-{
-    if first == 0xE2 {
-        if second == 0x86 {
-            if third == 0x92 {
-                return kinds::ARROW;
-            }
-        }
-    }
-    0
-}
-
-// The mark at the front of one, two or three bytes.
+// The mark at the front of one or two bytes.
 fn mark_of_one(first: u8) -> Lexeme
     ensures { λ r. ⌜ r ≡ mark edition17 (first ∷ []) ⌝ }
 {
@@ -68,29 +55,33 @@ fn mark_of_two(first: u8, second: u8) -> Lexeme
     Lexeme::Token(kind, 2)
 }
 
-fn mark_of_three(first: u8, second: u8, third: u8) -> Lexeme
-    ensures { λ r. ⌜ r ≡ mark edition17 (first ∷ second ∷ third ∷ []) ⌝ }
+// The mark at `at`, where the first byte of `→` stands. No other mark begins with it.
+fn arrow_at(source: &[u8], at: usize) -> Lexeme
+    requires { ⌜ (at < length (now source)) × (getD (now source) at 0 ≡ 0xE2) ⌝ }
+    ensures { λ r. ⌜ r ≡ mark edition17 (drop at (now (source .entry))) ⌝ }
 {
-    let kind = triple_kind(first, second, third);
-    if kind == 0 {
-        return mark_of_two(first, second);
+    let next = at + 1;
+    if next < source.len() {
+        if source[next] == 0x86 {
+            if bytes::byte_at(source, next + 1) == 0x92 {
+                return Lexeme::Token(kinds::ARROW, 3);
+            }
+        }
     }
-    Lexeme::Token(kind, 3)
+    Lexeme::BadByte
 }
 
-// The mark at `at`.
+// The mark at `at`. Only `→` has more than two bytes, and a byte 0 after the end changes no mark.
 pub fn mark_at(source: &[u8], at: usize) -> Lexeme
     ensures { λ r. ⌜ r ≡ mark edition17 (drop at (now (source .entry))) ⌝ }
 {
     if source.len() <= at {
         return Lexeme::BadByte;
     }
-    let left = source.len() - at;
-    if left == 1 {
-        return mark_of_one(source[at]);
+    let first = source[at];
+    if first == 0xE2 {
+        return arrow_at(source, at);
     }
-    if left == 2 {
-        return mark_of_two(source[at], source[at + 1]);
-    }
-    mark_of_three(source[at], source[at + 1], source[at + 2])
+    let second = bytes::byte_at(source, at + 1);
+    mark_of_two(first, second)
 }

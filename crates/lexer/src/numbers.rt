@@ -3,6 +3,7 @@ use crate::Class;
 use crate::Lexeme;
 use crate::bytes;
 use crate::kinds;
+use crate::runs;
 ghost use mathlib.Core.Path.{_≡_};
 ghost use Prim.Native.Nat.{_+_};
 ghost use lib.ListN.{drop};
@@ -15,7 +16,7 @@ fn fraction_end(source: &[u8], at: usize) -> usize
 {
     if bytes::begins_either(source, at, b'.', b'.') {
         let from = at + 1;
-        let end = bytes::run_end(source, from, Class::Digit);
+        let end = runs::run_end(source, from, Class::Digit);
         if from < end {
             return end;
         }
@@ -39,7 +40,7 @@ fn exponent_end(source: &[u8], at: usize) -> usize
 {
     if bytes::begins_either(source, at, b'e', b'E') {
         let from = sign_end(source, at + 1);
-        let end = bytes::run_end(source, from, Class::Digit);
+        let end = runs::run_end(source, from, Class::Digit);
         if from < end {
             return end;
         }
@@ -51,7 +52,7 @@ fn exponent_end(source: &[u8], at: usize) -> usize
 pub fn unsigned_at(source: &[u8], at: usize) -> Lexeme
     ensures { λ r. ⌜ r ≡ unsignedNumber (drop at (now (source .entry))) ⌝ }
 {
-    let whole = bytes::run_end(source, at, Class::Digit);
+    let whole = runs::run_end(source, at, Class::Digit);
     if whole == at {
         return Lexeme::BadByte;
     }

@@ -3,6 +3,7 @@ use crate::Class;
 use crate::Lexeme;
 use crate::bytes;
 use crate::kinds;
+use crate::runs;
 ghost use mathlib.Core.Path.{_≡_};
 ghost use Prim.Native.Nat.{_+_, _-_, _≤_};
 ghost use lib.ListN.{drop};
@@ -16,7 +17,7 @@ fn word_end(source: &[u8], at: usize) -> usize
 {
     if at < source.len() {
         if bytes::class_of(source[at]) == bytes::LETTER {
-            return bytes::run_end(source, at + 1, Class::Word);
+            return runs::run_end(source, at + 1, Class::Word);
         }
     }
     at
@@ -41,9 +42,9 @@ pub fn two_colons(source: &[u8], at: usize) -> bool
     ensures { λ r. ⌜ r ≡ twoColons (drop at (now (source .entry))) ⌝ }
 {
     if at < source.len() {
-        let next = at + 1;
-        if next < source.len() {
-            if source[at] == b':' {
+        if source[at] == b':' {
+            let next = at + 1;
+            if next < source.len() {
                 return source[next] == b':';
             }
         }

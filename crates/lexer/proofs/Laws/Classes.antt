@@ -4,19 +4,21 @@ use Prim.Native.Char.{code}
 use Prim.Native.Nat.{ℕ, _<_}
 use mathlib.Core.Path.{_≡_, refl}
 use mathlib.Core.Bool.{Bool, true, false}
-use lib.Dec.{T, eqb, leb}
+use mathlib.Core.List.{[], _∷_}
+use lib.Dec.{T, eqb}
+use borrow.Author.Tests.{ne-eqb}
 use Rattle.lexer.specs.Tests.{and, or, between}
-use Rattle.lexer.specs.Bytes.{isDigit, isLetter, isSpace, isWordByte}
+use Rattle.lexer.specs.Bytes.{isDigit, isLetter, isSpace}
 use Rattle.lexer.specs.Leaves.{classOf}
-use Rattle.lexer.proofs.Laws.Computed.{all, all-at}
+use Rattle.lexer.proofs.Laws.Computed.{all, all-at, None}
 
 -- whether two tests agree
-agree : Bool → Bool → Bool
+unfoldable pub agree : Bool → Bool → Bool
 agree true b = b
 agree false true = false
 agree false false = true
 
-agreed : (a b : Bool) → T (agree a b) → a ≡ b
+pub agreed : (a b : Bool) → T (agree a b) → a ≡ b
 unfolding agree
 agreed true true t = refl
 agreed true false t = absurd t
@@ -52,6 +54,7 @@ pub class-backtick : (b : ℕ) → b < 256 → eqb (classOf b) 5 ≡ eqb b (code
 unfolding agree classOf and or between isDigit isLetter isSpace
 class-backtick = class-test 5 (λ b. eqb b (code "`")) tt
 
-pub class-word : (b : ℕ) → b < 256 → leb (classOf b) 1 ≡ isWordByte b
-unfolding agree classOf and or between isDigit isLetter isSpace isWordByte
-class-word b h = agreed _ _ (all-at (λ b. agree (leb (classOf b) 1) (isWordByte b)) 256 tt b h)
+-- a byte that is none of the four spaces
+pub no-space : (b : ℕ) → None (13 ∷ 9 ∷ 10 ∷ 32 ∷ []) b → isSpace b ≡ false
+unfolding isSpace or
+no-space b h = rw (ne-eqb _ _ (h .0 .0 .0 .1), ne-eqb _ _ (h .0 .0 .1), ne-eqb _ _ (h .0 .1), ne-eqb _ _ (h .1))

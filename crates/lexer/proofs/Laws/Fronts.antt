@@ -23,13 +23,3 @@ module _ (s : List ℕ) (at : ℕ) where
   front-two h =
       let below : at < length s = omega arith in
       rw (front-one s at below, front-one s (at + 1) h, add-assoc)
-
-  pub front-last-two : at + 1 < length s → length s ≤ at + 2 → drop at s ≡ getD s at 0 ∷ getD s (at + 1) 0 ∷ []
-  front-last-two h e = rw (front-two h) (rw (drop-of-length-le s e))
-
-module _ (s : List ℕ) (at : ℕ) where
-  pub front-three : at + 2 < length s
-      → drop at s ≡ getD s at 0 ∷ getD s (at + 1) 0 ∷ getD s (at + 2) 0 ∷ drop (at + 3) s
-  front-three h =
-      let below : at + 1 < length s = omega arith in
-      rw (front-two s at below, front-one s (at + 2) h, add-assoc)

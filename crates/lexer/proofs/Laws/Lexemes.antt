@@ -155,10 +155,6 @@ mark-slash (b ∷ []) = simp and-false
 mark-slash (b ∷ c ∷ t) = simp and-false
 
 -- what the rules give where their first byte stands
-pub spaces-none : (t : List ℕ) → run isSpace t ≡ 0 → spaces t ≡ BadByte
-unfolding spaces skippedSpaces
-spaces-none t h = rw h
-
 spaces-of : (n : ℕ) → 0 < n → skippedSpaces n ≡ Skipped n
 unfolding skippedSpaces
 spaces-of zero h = absurd (omega arith)

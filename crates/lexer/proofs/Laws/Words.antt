@@ -1,4 +1,5 @@
 -- Words, IDENTs and joins, as the tokeniser finds them. Assumes nothing.
+use Prim.Native.Char.{code}
 use Prim.Native.Nat.{ℕ, zero, suc, _+_, _≤_, _<_, zero-le, suc-le-suc}
 use mathlib.Core.Path.{_≡_, refl, _∙_, ap}
 use mathlib.Core.Bool.{Bool, true, false}
@@ -121,6 +122,11 @@ module _ (s : List ℕ) (at : ℕ) (one : wordLength (drop at s) ≡ 1) where
   ident-one-at =
       let e = front-one s at one-inside in
       rw e (ident-one _ _ (rw e at one))
+
+pub colons-other : (a : ℕ) (s : List ℕ) → (a ≡ code ":" → ⊥) → twoColons (a ∷ s) ≡ false
+unfolding twoColons and
+colons-other a [] h = refl
+colons-other a (b ∷ s) h = rw (ne-eqb a (code ":") h)
 
 two-bytes : (t : List ℕ) → twoColons t ≡ true → 1 < length t
 unfolding twoColons

@@ -1,14 +1,16 @@
 -- `lexer::lexemes::lexeme_at` meets its contract: the class of the first byte decides the rule. Assumes nothing.
 use Prim.Native.Nat.{ℕ, _+_, _<_}
 use mathlib.Core.Path.{_≡_, _∙_, sym}
+use mathlib.Core.Bool.{true}
 use mathlib.Core.List.{List, _∷_}
 use lib.ListN.{length, drop, getD}
 use borrow.Author.Tests.{eqb-true, eq-eqb}
+use Rattle.lexer.specs.Bytes.{isSpace}
 use Rattle.lexer.specs.Editions.{edition17}
 use Rattle.lexer.specs.Lexemes.{spaces, comment, word, unsignedNumber, number, text, mark, orElse, lexeme}
 use Rattle.lexer.specs.Leaves.{classOf}
 use Rattle.lexer.specs.declared.Lexeme.{Lexeme}
-use Rattle.lexer.proofs.Laws.Classes.{class-minus, class-slash, class-backtick}
+use Rattle.lexer.proofs.Laws.Classes.{class-space, class-minus, class-slash, class-backtick}
 use Rattle.lexer.proofs.Laws.Fronts.{front-none, front-one}
 use Rattle.lexer.proofs.Laws.Lexemes.{lexeme-letter, lexeme-space, lexeme-digit, lexeme-minus, lexeme-slash, lexeme-backtick}
 use Rattle.lexer.proofs.Laws.Lexemes.{lexeme-mark, string-first}
@@ -36,6 +38,9 @@ module _ (c : tie.After-class-of) where
   class-not : (k : ℕ) → (c .class-of .result ≡ k → ⊥) → classOf first ≡ k → ⊥
   class-not k h e = h (c .class-of .ensures ∙ e)
 
+  space-there : c .class-of .result ≡ 2 → isSpace first ≡ true
+  space-there h = sym (class-space _ byte) ∙ eq-eqb _ _ (class-is 2 h)
+
   minus-there : c .class-of .result ≡ 3 → first ≡ 0x2D
   minus-there h = eqb-true _ _ (sym (class-minus _ byte) ∙ eq-eqb _ _ (class-is 3 h))
 
@@ -61,10 +66,13 @@ word-at-requires : tie.Need-word-at-requires
 word-at-requires c κs = search needs
 
 spaces-at-requires : tie.Need-spaces-at-requires
-spaces-at-requires c κs = search needs
+spaces-at-requires c κs =
+    let if1 = c .before .before .before .if1 in
+    let at-class-of = c .before in
+    (if1 .left, space-there (at-class-of) (c .match .keys2))
 
-unsigned-at-requires : tie.Need-unsigned-at-requires
-unsigned-at-requires c κs = search needs
+digits-at-requires : tie.Need-digits-at-requires
+digits-at-requires c κs = search needs
 
 minus-at-requires : tie.Need-minus-at-requires
 minus-at-requires c κs =
@@ -108,7 +116,7 @@ returns-4 c =
     let if1 = c .before .before .before .before .if1 in
     let at-class-of = c .before .before in
     let match = c .before .match in
-    c .unsigned-at .ensures ∙ here unsignedNumber _ _ (if1 .left)
+    c .digits-at .ensures ∙ here unsignedNumber _ _ (if1 .left)
     (lexeme-digit edition17 _ _ (byte (at-class-of)) (class-is (at-class-of) 0 (match .keys3)))
 
 returns-5 : tie.Need-returns-5
@@ -156,7 +164,7 @@ lexeme-at-spec =
     class-of-requires
     word-at-requires
     spaces-at-requires
-    unsigned-at-requires
+    digits-at-requires
     minus-at-requires
     slash-at-requires
     string-at-requires

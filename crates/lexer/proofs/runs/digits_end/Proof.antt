@@ -1,0 +1,63 @@
+-- `lexer::runs::digits_end` meets its contract: the place reached and what is left to run make the whole run.
+-- Assumes nothing.
+use mathlib.Core.Path.{_∙_, refl, sym}
+use Prim.Native.Nat.{_-_}
+use lib.ListN.{length}
+use borrow.Author.Needs.{needs}
+use Rattle.lexer.specs.Bytes.{isDigit}
+use Rattle.lexer.proofs.Laws.Runs.{Follows, follow-on, follow-ends, follow-past}
+use Rattle.lexer.proofs.runs.digits_end.Statement.{statement}
+use Rattle.lexer.proofs.runs.digits_end.Tie as tie
+
+abbrev Inv-loop : tie.InvT-loop
+Inv-loop source at i₀ i = Follows isDigit source at i
+
+abbrev μ-loop : tie.MeasureT-loop
+μ-loop source at i₀ i = length source - i
+
+loop-holds : tie.Need-loop-holds Inv-loop μ-loop
+loop-holds c = refl
+
+shared-slice-read-is-digit : tie.Need-shared-slice-read-is-digit Inv-loop μ-loop
+shared-slice-read-is-digit c = search needs
+
+is-digit-requires : tie.Need-is-digit-requires Inv-loop μ-loop
+is-digit-requires c κs = search needs
+
+add-i : tie.Need-add-i Inv-loop μ-loop
+add-i c = search needs
+
+loop-less : tie.Need-loop-less Inv-loop μ-loop
+loop-less c = search needs
+
+loop-again : tie.Need-loop-again Inv-loop μ-loop
+loop-again c =
+    let test = c .before .is-digit in
+    let inside = c .before .before .before .loop-test in
+    let loop = c .before .before .before .before .loop in
+    follow-on isDigit _ _ _ (loop .inv) (inside .taken) (sym (test .ensures) ∙ c .if1 .taken)
+
+returns : tie.Need-returns Inv-loop μ-loop
+returns c =
+    let test = c .before .is-digit in
+    let inside = c .before .before .before .loop-test in
+    let loop = c .before .before .before .before .loop in
+    follow-ends isDigit _ _ _ (loop .inv) (inside .taken) (sym (test .ensures) ∙ c .if1 .left)
+
+returns-2 : tie.Need-returns-2 Inv-loop μ-loop
+returns-2 c = follow-past isDigit _ _ _ (c .before .loop .inv) (c .loop-test .left)
+
+pub digits-end-spec : {M : Type 1} → statement M
+digits-end-spec =
+    tie.close
+    (tie.spec
+    Inv-loop
+    μ-loop
+    loop-holds
+    shared-slice-read-is-digit
+    is-digit-requires
+    add-i
+    loop-less
+    loop-again
+    returns
+    returns-2)
