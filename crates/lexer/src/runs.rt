@@ -1,10 +1,11 @@
 // How far a class of bytes runs: one loop for each class, whose test is plain comparisons on the byte.
 use crate::Class;
 ghost use mathlib.Core.Path.{_≡_};
-ghost use Prim.Native.Nat.{_+_, _-_};
+ghost use Prim.Native.Nat.{_+_, _-_, _≤_};
+ghost use mathlib.Core.Bool.{true};
 ghost use lib.ListN.{length, drop};
 ghost use Rattle.lexer.specs.Bytes.{isSpace, isDigit, isWordByte, member, run};
-ghost use Rattle.lexer.specs.Leaves.{isNot};
+ghost use Rattle.lexer.specs.Leaves.{isNot, Goes};
 
 // Whether a byte is a space.
 fn is_space(b: u8) -> bool
@@ -117,26 +118,34 @@ fn stop_after(source: &[u8], at: usize, stop: u8) -> usize
     i
 }
 
-// The same, four bytes a turn while there are so many.
+// Whether none of the sixteen bytes from `at` on is `stop`, so that a run that is at `at` goes on behind them. Every byte is looked at,
+// so that the compiler can compare them at once.
+fn block_passes(source: &[u8], at: usize, stop: u8) -> bool
+    requires { ⌜ at + 16 ≤ length (now source) ⌝ }
+    ensures { λ r. ⌜ (r ≡ true → Goes (isNot stop) (now (source .entry)) at (at + 16)) ⌝ }
+{
+    let mut found = false;
+    let mut k = 0;
+    while k < 16 {
+        if source[at + k] == stop {
+            found = true;
+        }
+        k += 1;
+    }
+    !found
+}
+
+// Where the bytes from `at` on that are not `stop` end, sixteen bytes a turn while none of them is `stop`.
 fn stop_end(source: &[u8], at: usize, stop: u8) -> usize
     ensures { λ r. ⌜ r ≡ at + run (isNot stop) (drop at (now (source .entry))) ⌝ }
 {
-    let last = bytes_from(source, 3);
+    let last = bytes_from(source, 15);
     let mut i = at;
     while i < last {
-        if source[i] == stop {
-            return i;
+        if !block_passes(source, i, stop) {
+            return stop_after(source, i, stop);
         }
-        if source[i + 1] == stop {
-            return i + 1;
-        }
-        if source[i + 2] == stop {
-            return i + 2;
-        }
-        if source[i + 3] == stop {
-            return i + 3;
-        }
-        i += 4;
+        i += 16;
     }
     stop_after(source, i, stop)
 }

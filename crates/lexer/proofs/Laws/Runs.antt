@@ -9,7 +9,7 @@ use native.Mathlib.Numerals.{add-one}
 use native.Mathlib.Nat.{add-zero, add-suc, suc-add}
 use borrow.Author.Tests.{eq-eqb, ne-eqb}
 use Rattle.lexer.specs.Bytes.{run}
-use Rattle.lexer.specs.Leaves.{isNot}
+use Rattle.lexer.specs.Leaves.{isNot, Goes}
 
 pub run-nil : (p : ℕ → Bool) → run p [] ≡ 0
 unfolding run
@@ -42,12 +42,9 @@ module _ (p : ℕ → Bool) (s : List ℕ) (i : ℕ) where
   pub run-ends : i < length s → p (getD s i 0) ≡ false → run p (drop i s) ≡ 0
   run-ends h e = rw (drop-cons s i 0 h) (run-stop p _ _ e)
 
--- A run that is followed byte by byte, from `at` on: the place reached and what is left to run make the whole.
-abbrev pub Follows : (ℕ → Bool) → List ℕ → ℕ → ℕ → Type 0
-Follows p s at i = i + run p (drop i s) ≡ at + run p (drop at s)
-
-module _ (p : ℕ → Bool) (s : List ℕ) (at i : ℕ) (so-far : Follows p s at i) where
-  pub follow-on : i < length s → p (getD s i 0) ≡ true → Follows p s at (i + 1)
+-- A run that is followed byte by byte, from `at` on: the place reached and what is left to run make the whole (`Goes`).
+module _ (p : ℕ → Bool) (s : List ℕ) (at i : ℕ) (so-far : Goes p s at i) where
+  pub follow-on : i < length s → p (getD s i 0) ≡ true → Goes p s at (i + 1)
   follow-on h e = sym (run-goes-on p s i h e) ∙ so-far
 
   pub follow-ends : i < length s → p (getD s i 0) ≡ false → i ≡ at + run p (drop at s)
@@ -57,7 +54,7 @@ module _ (p : ℕ → Bool) (s : List ℕ) (at i : ℕ) (so-far : Follows p s at
   follow-past h = sym (add-zero i) ∙ rw (run-past p s i h) at so-far
 
   -- .. to a place that is the next one
-  pub follow-to : (j : ℕ) → j ≡ i + 1 → i < length s → p (getD s i 0) ≡ true → Follows p s at j
+  pub follow-to : (j : ℕ) → j ≡ i + 1 → i < length s → p (getD s i 0) ≡ true → Goes p s at j
   follow-to j next h e = rw next (follow-on h e)
 
 -- a run up to a byte

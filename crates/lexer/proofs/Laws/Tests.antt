@@ -1,7 +1,7 @@
 -- Laws of the tests and choices that the lexical rules are written with. Assumes nothing.
 use Prim.Native.Nat.{ℕ, _≤_}
 use mathlib.Core.Path.{_≡_, refl, _∙_, sym}
-use mathlib.Core.Bool.{Bool, true, false}
+use mathlib.Core.Bool.{Bool, true, false, not}
 use native.Mathlib.Omega.{arith}
 use lib.Dec.{eqb, leb}
 use borrow.Author.Tests.{eqb-true, eqb-false, eq-eqb, ne-eqb, leb-true}
@@ -74,3 +74,12 @@ apart k x y h = cases (eqb y k) refl
     cases : (t : Bool) → eqb y k ≡ t → and t (eqb x k) ≡ false
     cases true e = ne-eqb x k (λ (q : x ≡ k). h (q ∙ sym (eqb-true y k e)))
     cases false e = refl
+
+-- the opposite of a test
+pub not-true : (t : Bool) → not t ≡ true → t ≡ false
+not-true false h = refl
+not-true true h = sym h
+
+pub not-false : (t : Bool) → not t ≡ false → t ≡ true
+not-false true h = refl
+not-false false h = sym h

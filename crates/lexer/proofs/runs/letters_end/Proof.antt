@@ -5,12 +5,13 @@ use Prim.Native.Nat.{_-_}
 use lib.ListN.{length}
 use borrow.Author.Needs.{needs}
 use Rattle.lexer.specs.Bytes.{isWordByte}
-use Rattle.lexer.proofs.Laws.Runs.{Follows, follow-on, follow-ends, follow-past}
+use Rattle.lexer.specs.Leaves.{Goes}
+use Rattle.lexer.proofs.Laws.Runs.{follow-on, follow-ends, follow-past}
 use Rattle.lexer.proofs.runs.letters_end.Statement.{statement}
 use Rattle.lexer.proofs.runs.letters_end.Tie as tie
 
 abbrev Inv-loop : tie.InvT-loop
-Inv-loop source at i₀ i = Follows isWordByte source at i
+Inv-loop source at i₀ i = Goes isWordByte source at i
 
 abbrev μ-loop : tie.MeasureT-loop
 μ-loop source at i₀ i = length source - i

@@ -4,13 +4,13 @@ use mathlib.Core.Path.{refl}
 use Prim.Native.Nat.{_-_}
 use lib.ListN.{length}
 use borrow.Author.Needs.{needs}
-use Rattle.lexer.specs.Leaves.{isNot}
-use Rattle.lexer.proofs.Laws.Runs.{Follows, follow-on, follow-ends, follow-past, is-stop, is-other}
+use Rattle.lexer.specs.Leaves.{isNot, Goes}
+use Rattle.lexer.proofs.Laws.Runs.{follow-on, follow-ends, follow-past, is-stop, is-other}
 use Rattle.lexer.proofs.runs.stop_after.Statement.{statement}
 use Rattle.lexer.proofs.runs.stop_after.Tie as tie
 
 abbrev Inv-loop : tie.InvT-loop
-Inv-loop source at stop i₀ i = Follows (isNot stop) source at i
+Inv-loop source at stop i₀ i = Goes (isNot stop) source at i
 
 abbrev μ-loop : tie.MeasureT-loop
 μ-loop source at stop i₀ i = length source - i
