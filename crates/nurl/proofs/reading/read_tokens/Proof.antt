@@ -94,7 +94,8 @@ slice-relend-prefix-clear c =
     let args = c .before .before .before .before .before .before .before .before .before .before .before .before .before .before .before .before .before .before .args in
     let is-room = room .ensures in
     let put = kept-size (read-program .last .1 .1 .1 .0) (args .rows .now) (room .result * 4) (read-program .kept .1 .1 .1 .0) (omega arith) in
-    front-inside (read-program .last .1 .1 .1 .0) (drop (room .result * 4) (args .rows .now)) _ put
+    let inside = front-inside (read-program .last .1 .1 .1 .0) (drop (room .result * 4) (args .rows .now)) _ put in
+    omega arith
 
 slice-aggregate-clear : tie.Need-slice-aggregate-clear
 slice-aggregate-clear c =
@@ -103,7 +104,8 @@ slice-aggregate-clear c =
     let args = c .before .before .before .before .before .before .before .before .before .before .before .before .before .before .before .before .before .before .before .args in
     let is-room = room .ensures in
     let put = kept-size (read-program .last .1 .1 .1 .0) (args .rows .now) (room .result * 4) (read-program .kept .1 .1 .1 .0) (omega arith) in
-    front-counts (read-program .last .1 .1 .1 .0) (drop (room .result * 4) (args .rows .now)) _ put
+    let inside = front-inside (read-program .last .1 .1 .1 .0) (drop (room .result * 4) (args .rows .now)) _ put in
+    sym (length-take-le _ _ (omega arith))
 
 clear-requires : tie.Need-clear-requires
 clear-requires c κs = search needs
@@ -118,7 +120,8 @@ slice-relend-prefix-clear-2 c =
     let args = c .before .before .before .before .before .before .before .before .before .before .before .before .before .before .before .before .before .before .before .args in
     let is-room = room .ensures in
     let put = kept-size (read-program .last .1 .1 .1 .0) (args .rows .now) (room .result * 4) (read-program .kept .1 .1 .1 .0) (omega arith) in
-    front-inside (read-program .last .1 .1 .1 .0) (drop (room .result * 4) (args .rows .now)) _ put
+    let inside = front-inside (read-program .last .1 .1 .1 .0) (drop (room .result * 4) (args .rows .now)) _ put in
+    omega arith
 
 slice-aggregate-clear-2 : tie.Need-slice-aggregate-clear-2
 slice-aggregate-clear-2 c =
@@ -127,7 +130,8 @@ slice-aggregate-clear-2 c =
     let args = c .before .before .before .before .before .before .before .before .before .before .before .before .before .before .before .before .before .before .before .before .args in
     let is-room = room .ensures in
     let put = kept-size (read-program .last .1 .1 .1 .0) (args .rows .now) (room .result * 4) (read-program .kept .1 .1 .1 .0) (omega arith) in
-    front-counts (read-program .last .1 .1 .1 .0) (drop (room .result * 4) (args .rows .now)) _ put
+    let inside = front-inside (read-program .last .1 .1 .1 .0) (drop (room .result * 4) (args .rows .now)) _ put in
+    sym (length-take-le _ _ (omega arith))
 
 clear-requires-2 : tie.Need-clear-requires-2
 clear-requires-2 c κs = search needs
