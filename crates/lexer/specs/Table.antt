@@ -47,6 +47,16 @@ scanned (fault number place) = Refused number place
 unfoldable pub counted : Edition → List ℕ → Scanned
 counted e s = pick (ltb sourceLimit (length s)) (Refused 1 0) (scanned (scan e s))
 
+-- document 01's number and values for each case of the tokeniser's answer, as two numbers: 0 and the number of tokens, or the
+-- refusal's number and its place
+unfoldable pub scannedValues : Scanned → List ℕ
+scannedValues (Tokens count) = 0 ∷ count ∷ []
+scannedValues (Refused number place) = number ∷ place ∷ []
+
+-- these numbers for a source
+abbrev pub countedValues : Edition → List ℕ → List ℕ
+countedValues e s = scannedValues (counted e s)
+
 -- "more tokens than rows": refusal 5, place the tokens needed, where there is no other
 unfoldable pub withRoom : ℕ → Scanned → Scanned
 withRoom rows (Tokens n) = pick (leb n rows) (Tokens n) (Refused 5 n)
@@ -55,6 +65,10 @@ withRoom rows (Refused number place) = Refused number place
 -- what the tokeniser answers for a source and a table
 unfoldable pub tokenized : Edition → List ℕ → List ℕ → Scanned
 tokenized e s table = withRoom (tokenRoom table) (counted e s)
+
+-- these numbers for a source and a table
+abbrev pub tokenizedValues : Edition → List ℕ → List ℕ → List ℕ
+tokenizedValues e s table = scannedValues (tokenized e s table)
 
 -- "On 3, 4 and 5 the table is unchanged", and on 1
 unfoldable pub afterAnswer : Scanned → List Token → List ℕ → List ℕ

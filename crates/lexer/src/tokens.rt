@@ -8,14 +8,16 @@ ghost use Prim.Native.Nat.{_+_, _*_, _≤_};
 ghost use lib.ListN.{length};
 ghost use Rattle.lexer.specs.Editions.{edition17};
 ghost use Rattle.lexer.specs.Tokens.{Scan, clean, scan};
-ghost use Rattle.lexer.specs.Table.{sourceLimit, tokenWidth, tokensOf, filled, counted, tokenized, tableAfter};
+ghost use Rattle.lexer.specs.Table.{sourceLimit, tokenWidth, tokensOf, filled, scannedValues, counted, countedValues};
+ghost use Rattle.lexer.specs.Table.{tokenized, tokenizedValues, tableAfter};
 
 // The most bytes that a source may have.
 pub const SOURCE_LIMIT: usize = 1048576;
 
 // The number of tokens of a source, or its refusal 1, 3 or 4.
 pub fn count_tokens(source: &[u8]) -> Scanned
-    ensures { λ r. ⌜ r ≡ counted edition17 (now (source .entry)) ⌝ }
+    ensures answer { λ r. ⌜ r ≡ counted edition17 (now (source .entry)) ⌝ }
+    ensures values { λ r. ⌜ scannedValues r ≡ countedValues edition17 (now (source .entry)) ⌝ }
 {
     if SOURCE_LIMIT < source.len() {
         return Scanned::Refused(1, 0);
@@ -64,8 +66,9 @@ fn fill(source: &[u8], table: &mut [u32])
 
 // The tokens of a source into the first rows of the table, or the refusal, which leaves the table as it is.
 pub fn tokenize(source: &[u8], table: &mut [u32]) -> Scanned
-    ensures { λ r. ⌜ r ≡ tokenized edition17 (now (source .entry)) (now (table .entry)) ⌝ }
-    ensures { λ r. ⌜ now (table .exit) ≡ tableAfter edition17 (now (source .entry)) (now (table .entry)) ⌝ }
+    ensures answer { λ r. ⌜ r ≡ tokenized edition17 (now (source .entry)) (now (table .entry)) ⌝ }
+    ensures table { λ r. ⌜ now (table .exit) ≡ tableAfter edition17 (now (source .entry)) (now (table .entry)) ⌝ }
+    ensures values { λ r. ⌜ scannedValues r ≡ tokenizedValues edition17 (now (source .entry)) (now (table .entry)) ⌝ }
 {
     let found = count_tokens(source);
     match found {

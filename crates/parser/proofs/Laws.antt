@@ -22,3 +22,4 @@ pub mod Declarations
 pub mod Functions
 pub mod Definitions
 pub mod Programs
+pub mod WholeRows

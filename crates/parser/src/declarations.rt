@@ -4,6 +4,7 @@ use crate::expressions;
 use crate::questions;
 use crate::row_kinds;
 use crate::steps;
+use crate::tree;
 use crate::types;
 use crate::words;
 use grammar::forms;
@@ -12,7 +13,7 @@ use typenames::Scope;
 ghost use mathlib.Core.Path.{_≡_};
 ghost use mathlib.Core.Bool.{true, false};
 ghost use mathlib.Core.List.{[], _∷_};
-ghost use Prim.Native.Nat.{_<_};
+ghost use Prim.Native.Nat.{ℕ, _<_};
 ghost use lib.Dec.{eqb};
 ghost use Rattle.lexer.specs.Kinds.{at as atSign, bar};
 ghost use Rattle.grammar.specs.Grammars.{query, part};
@@ -21,8 +22,10 @@ ghost use Rattle.grammar.specs.Nonterminals.{methods as methodList, method as a
 ghost use Rattle.grammar.specs.Nonterminals.{payloadTypes, program as aProgram};
 ghost use Rattle.grammar.specs.Nurl.{plainName, opensStruct};
 ghost use Rattle.grammar.specs.Alternatives.{kindAlternative};
+ghost use Rattle.grammar.specs.TreeTable.{cleared};
 ghost use Rattle.parser.specs.Steps.{Tokens, Within, nextKind, begins, askedAt, AnswersKinds, payloadBegins, opened};
 ghost use Rattle.parser.specs.Readings.{namesIn, ReadsIn, ReadsKinds, ReadsAll, ReadsWhole};
+ghost use Rattle.parser.specs.declared.Step.the-variants.{Refused};
 
 // Whether the next token begins a declaration.
 fn begins_declaration(tokens: &[u32], step: Step) -> bool
@@ -435,7 +438,7 @@ fn program(
 }
 
 // The whole program: as many declarations as there are, up to the end of the tokens.
-pub fn read_program(
+fn whole_program(
     source: &[u8],
     names: &[u8],
     tokens: &[u32],
@@ -453,4 +456,29 @@ pub fn read_program(
         return read;
     }
     steps::refuse(read, steps::NO_PROGRAM)
+}
+
+// Reads a whole program into the whole rows of the tree table. A refusal leaves them all zero.
+pub fn read_program(
+    source: &[u8],
+    names: &[u8],
+    tokens: &[u32],
+    rows: &mut [u32],
+    scope: Scope,
+    left: usize,
+) -> Step
+    requires { ⌜ Tokens (now tokens) ⌝ }
+    ensures reads { λ r. ⌜ ReadsWhole (now (source .entry)) (now (names .entry)) (now (tokens .entry)) scope left
+        (now (rows .entry)) r (now (rows .exit)) ⌝ }
+    ensures refused { λ r. ⌜ ((number place : ℕ) → r ≡ Refused number place → now (rows .exit) ≡ cleared (now (rows .entry))) ⌝ }
+{
+    let end = tree::room(rows) * tree::WIDTH;
+    let read = whole_program(source, names, tokens, &mut rows[..end], scope, left);
+    match read {
+        Step::Refused(number, place) => {
+            tree::clear(rows);
+            Step::Refused(number, place)
+        }
+        Step::Read(next, row) => Step::Read(next, row),
+    }
 }

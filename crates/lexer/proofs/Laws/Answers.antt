@@ -1,6 +1,6 @@
 -- The tokeniser's answer and table from the count of tokens, case by case, for any edition. Assumes nothing.
 use Prim.Native.Nat.{ℕ, _<_, _≤_}
-use mathlib.Core.Path.{_≡_, refl}
+use mathlib.Core.Path.{_≡_, refl, ap}
 use mathlib.Core.Bool.{Bool, true, false}
 use mathlib.Core.List.{List}
 use native.Mathlib.Omega.{arith}
@@ -14,6 +14,10 @@ use Rattle.lexer.specs.Table.{sourceLimit, tokenRoom, filled, tokensOf, 
 use Rattle.lexer.specs.Table.{tableAfter}
 use Rattle.lexer.specs.declared.Scanned.{Scanned}
 use Rattle.lexer.specs.declared.Scanned.the-variants.{Tokens, Refused}
+
+-- an answer of any kind that is the one expected has its numbers
+pub valued : {A : Type 0} (values : A → List ℕ) (r expected : A) → r ≡ expected → (r ≡ expected) × (values r ≡ values expected)
+valued values r expected h = (h, ap values h)
 
 -- what an answer and the table after it are
 pub record Answered (e : Edition) (s table : List ℕ) (answer : Scanned) (after : List ℕ) : Type 0 where

@@ -31,7 +31,7 @@ sets-sets table i j (v ∷ vs) ws h =
 abbrev writes : Bool → ℕ → Row → List ℕ → List ℕ
 writes t r x table = pick t (sets table (r * treeWidth) (treeRow x)) table
 
-length-putRow : (r : ℕ) (x : Row) (table : List ℕ) → length (putRow r x table) ≡ length table
+pub length-putRow : (r : ℕ) (x : Row) (table : List ℕ) → length (putRow r x table) ≡ length table
 unfolding putRow
 length-putRow r x table = by-room (ltb r (treeRoom table))
   where

@@ -5,7 +5,8 @@ use mathlib.Core.Path.{_∙_, sym}
 use lib.ListN.{length}
 use borrow.Author.Tests.{lt-ltb, le-ltb}
 use Rattle.lexer.specs.Editions.{edition17}
-use Rattle.lexer.specs.Table.{counted}
+use Rattle.lexer.specs.Table.{counted, scannedValues}
+use Rattle.lexer.proofs.Laws.Answers.{valued}
 use Rattle.lexer.proofs.Laws.Scans.{scan-from-start}
 use Rattle.lexer.proofs.Laws.Counts.{Counted, plus-none, skip-inside, token-inside, count-end, count-skip, count-token, count-bad}
 use Rattle.lexer.proofs.Laws.Counts.{count-open}
@@ -22,7 +23,7 @@ abbrev μ-loop : tie.MeasureT-loop
 
 returns : tie.Need-returns Inv-loop μ-loop
 unfolding counted
-returns c = rw (lt-ltb _ _ (c .if1 .taken))
+returns c = valued scannedValues _ _ (rw (lt-ltb _ _ (c .if1 .taken)))
 
 loop-holds : tie.Need-loop-holds Inv-loop μ-loop
 loop-holds c =
@@ -42,7 +43,9 @@ returns-2 c =
     let args = c .before .before .before .before .before .before .args in
     let loop = c .before .before .before .loop in
     let lexeme-at = c .before .before .lexeme-at in
-    rw (le-ltb _ _ (if1 .left)) (sym (count-end (args .source .now) (loop .at) (loop .count) (loop .inv .2) (sym (lexeme-at .ensures) ∙ c .enum-told .given .1)))
+    valued scannedValues _ _
+    (rw (le-ltb _ _ (if1 .left))
+    (sym (count-end (args .source .now) (loop .at) (loop .count) (loop .inv .2) (sym (lexeme-at .ensures) ∙ c .enum-told .given .1))))
 
 enum-known-next : tie.Need-enum-known-next Inv-loop μ-loop
 enum-known-next c = search needs
@@ -120,7 +123,9 @@ returns-3 c =
     let args = c .before .before .before .before .before .before .args in
     let loop = c .before .before .before .loop in
     let lexeme-at = c .before .before .lexeme-at in
-    rw (le-ltb _ _ (if1 .left)) (sym (count-bad (args .source .now) (loop .at) (loop .count) (loop .inv .2) (sym (lexeme-at .ensures) ∙ c .enum-told2 .given .1)))
+    valued scannedValues _ _
+    (rw (le-ltb _ _ (if1 .left))
+    (sym (count-bad (args .source .now) (loop .at) (loop .count) (loop .inv .2) (sym (lexeme-at .ensures) ∙ c .enum-told2 .given .1))))
 
 enum-told-3 : tie.Need-enum-told-3 Inv-loop μ-loop
 enum-told-3 c = search needs
@@ -132,7 +137,9 @@ returns-4 c =
     let args = c .before .before .before .before .before .before .args in
     let loop = c .before .before .before .loop in
     let lexeme-at = c .before .before .lexeme-at in
-    rw (le-ltb _ _ (if1 .left)) (sym (count-open (args .source .now) (loop .at) (loop .count) (loop .inv .2) (sym (lexeme-at .ensures) ∙ c .enum-told3 .given .1)))
+    valued scannedValues _ _
+    (rw (le-ltb _ _ (if1 .left))
+    (sym (count-open (args .source .now) (loop .at) (loop .count) (loop .inv .2) (sym (lexeme-at .ensures) ∙ c .enum-told3 .given .1))))
 
 pub count-tokens-spec : {M : Type 1} → statement M
 count-tokens-spec =

@@ -1,7 +1,7 @@
 -- `lexer::tokens::tokenize` meets its contract: what the count and the table's room decide. Assumes nothing.
-use mathlib.Core.Path.{_∙_, sym}
+use mathlib.Core.Path.{_∙_, sym, ap}
 use Rattle.lexer.specs.Editions.{edition17}
-use Rattle.lexer.specs.Table.{counted}
+use Rattle.lexer.specs.Table.{counted, scannedValues}
 use Rattle.lexer.proofs.Laws.Answers.{clean-count, answer-refused, answer-full, answer-tokens}
 use native.Mathlib.Omega.{arith}
 use borrow.Author.Needs.{needs}
@@ -29,11 +29,11 @@ returns c =
     let found2 = c .before .before .before .before .found2 in
     let room = c .before .room in
     let args = c .before .before .before .before .before .before .before .before .before .args in
-    let counted = sym (count-tokens .ensures) ∙ found2 .given .1 in
+    let counted = sym (count-tokens .ensures .0) ∙ found2 .given .1 in
     let e = room .ensures in
     let full = c .if1 .taken in
     let a = answer-full edition17 (args .source .now) (args .table .now) _ counted (omega arith) in
-    (sym (a .says), sym (a .leaves))
+    (sym (a .says), (sym (a .leaves), ap scannedValues (sym (a .says))))
 
 fill-requires : tie.Need-fill-requires
 fill-requires c κs =
@@ -42,7 +42,7 @@ fill-requires c κs =
     let found2 = c .before .before .before .before .before .found2 in
     let room = c .before .before .room in
     let if1 = c .before .if1 in
-    let k = clean-count edition17 (args .source .now) _ (sym (count-tokens .ensures) ∙ found2 .given .1) in
+    let k = clean-count edition17 (args .source .now) _ (sym (count-tokens .ensures .0) ∙ found2 .given .1) in
     let e = room .ensures in
     let fits = if1 .left in
     let n = k .count in
@@ -53,9 +53,9 @@ returns-2 c =
     let count-tokens = c .before .before .before .count-tokens in
     let found = c .before .found in
     let args = c .before .before .before .before .before .before .args in
-    let counted = sym (count-tokens .ensures) ∙ found .given .1 in
+    let counted = sym (count-tokens .ensures .0) ∙ found .given .1 in
     let a = answer-refused edition17 (args .source .now) (args .table .now) _ _ counted in
-    (sym (a .says), sym (a .leaves))
+    (sym (a .says), (sym (a .leaves), ap scannedValues (sym (a .says))))
 
 same-length-2 : tie.Need-same-length-2
 same-length-2 c = search needs
@@ -68,11 +68,11 @@ returns-3 c =
     let if1 = c .before .before .before .before .if1 in
     let args = c .before .before .before .before .before .before .before .before .before .before .before .before .before .args in
     let fill = c .before .before .fill in
-    let counted = sym (count-tokens .ensures) ∙ found2 .given .1 in
+    let counted = sym (count-tokens .ensures .0) ∙ found2 .given .1 in
     let e = room .ensures in
     let fits = if1 .left in
     let a = answer-tokens edition17 (args .source .now) (args .table .now) _ counted (omega arith) in
-    (sym (a .says), fill .ensures ∙ sym (a .leaves))
+    (sym (a .says), (fill .ensures ∙ sym (a .leaves), ap scannedValues (sym (a .says))))
 
 pub tokenize-spec : {M : Type 1} → statement M
 tokenize-spec =

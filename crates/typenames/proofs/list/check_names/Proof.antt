@@ -6,7 +6,8 @@ use native.Mathlib.Nat.{add-sub-cancel-left}
 use lib.ListN.{length, drop}
 use borrow.Author.Tests.{lt-ltb, le-ltb, not-true, not-false}
 use Rattle.lexer.specs.Editions.{edition17}
-use Rattle.typenames.specs.NameList.{nameLimit, split, entries, isName, firstBad, checked}
+use Rattle.lexer.proofs.Laws.Answers.{valued}
+use Rattle.typenames.specs.NameList.{nameLimit, split, entries, isName, firstBad, checkedValues, checked}
 use Rattle.typenames.proofs.Laws.Entries.{entries-some, entries-none, line-inside, entryHere, bad-here, good-last, good-here}
 use borrow.Author.Needs.{needs}
 use native.Mathlib.Omega.{arith}
@@ -28,14 +29,14 @@ asked c = c .is-name .ensures ∙ rw (c .before .before .run-end .ensures, add-s
 
 returns : tie.Need-returns Inv-loop μ-loop
 unfolding checked
-returns c = rw (lt-ltb nameLimit _ (c .if1 .taken))
+returns c = valued checkedValues _ _ (rw (lt-ltb nameLimit _ (c .if1 .taken)))
 
 returns-2 : tie.Need-returns-2 Inv-loop μ-loop
 unfolding checked firstBad
 returns-2 c =
     let if1 = c .before .if1 in
     let args = c .before .before .before .args in
-    rw (le-ltb nameLimit _ (if1 .left), entries-none (args .list .now) (c .if2 .taken))
+    valued checkedValues _ _ (rw (le-ltb nameLimit _ (if1 .left), entries-none (args .list .now) (c .if2 .taken)))
 
 loop-holds : tie.Need-loop-holds Inv-loop μ-loop
 loop-holds c =
@@ -67,8 +68,9 @@ returns-3 c =
     let loop = c .before .before .before .before .loop in
     let args = c .before .before .before .before .before .before .before .before .args in
     let at-is-name = c .before in
-    rw (le-ltb nameLimit _ (if1 .left))
-    (sym (loop .inv .1 ∙ bad-here edition17 (args .list .now) (loop .at) (sym (asked (at-is-name)) ∙ not-true _ (c .if3 .taken))))
+    valued checkedValues _ _
+    (rw (le-ltb nameLimit _ (if1 .left))
+    (sym (loop .inv .1 ∙ bad-here edition17 (args .list .now) (loop .at) (sym (asked (at-is-name)) ∙ not-true _ (c .if3 .taken)))))
 
 returns-4 : tie.Need-returns-4 Inv-loop μ-loop
 unfolding checked
@@ -79,9 +81,10 @@ returns-4 c =
     let run-end = c .before .before .before .before .run-end in
     let at-is-name = c .before .before in
     let if3 = c .before .if3 in
-    rw (le-ltb nameLimit _ (if1 .left))
+    valued checkedValues _ _
+    (rw (le-ltb nameLimit _ (if1 .left))
     (sym (loop .inv .1 ∙ good-last edition17 (args .list .now) (loop .at) (loop .inv .0) (sym (run-end .ensures) ∙ c .if4 .taken)
-    (sym (asked (at-is-name)) ∙ not-false _ (if3 .left))))
+    (sym (asked (at-is-name)) ∙ not-false _ (if3 .left)))))
 
 add-at : tie.Need-add-at Inv-loop μ-loop
 add-at c =
