@@ -1,5 +1,6 @@
 /* nurl.h: the C interface of libnurl.a, a reader of NURL source (grammar 1.7)
- * that turns bytes into a table of tokens and a flat tree. */
+ * that turns bytes into a table of tokens and a flat tree. docs/LANGUAGE.md
+ * explains the language and its trees, docs/REFUSALS.md each refusal. */
 #ifndef NURL_H
 #define NURL_H
 
@@ -51,7 +52,7 @@ extern "C" {
  *   3    a byte begins no token             its offset
  *   4    a string is not closed             offset of its opening backtick
  *   5    more tokens than whole rows        tokens needed
- *   6    no program                         token index; token count at the end
+ *   6    the tokens are not a program       token index; token count at the end
  *   7    nested deeper than 200 levels      token index
  *   8    more tree rows than whole rows     tree rows needed
  *

@@ -8,13 +8,21 @@ use crate::parser::parse;
 use crate::settings::{BASE, ROW_WIDTH, SOURCE_LIMIT, TOKEN_WIDTH};
 use crate::tokens::scan;
 
-/// The limits of the test program that reads the case file.
+/// The limits of the test program that reads the case file. Only the cases of
+/// large sources have a token table of more than `LONGEST_TOKEN_TABLE`.
 pub const LONGEST_PIECE: usize = 70_000;
 pub const LONGEST_SOURCE: usize = SOURCE_LIMIT + 1;
 pub const LONGEST_NAME_LIST: usize = 16_385;
 pub const LONGEST_TOKEN_TABLE: usize = 9_000;
+pub const LARGE_TOKEN_TABLE: usize = 1_200_000;
 pub const LONGEST_TREE_TABLE: usize = 12_000;
 pub const LONGEST_FILE: usize = 1_400_000;
+
+/// A table of more numbers is printed as its digest.
+pub const LONGEST_PRINTED_TABLE: usize = 12_000;
+
+/// The digest of a table is a number below this one.
+pub const DIGEST_MODULUS: u64 = 4_294_967_291;
 
 /// Number `i` of the token table holds this plus `i` before the reading.
 pub const TOKEN_PATTERN: u32 = 900_000;
@@ -178,11 +186,27 @@ impl Needed {
     }
 }
 
-/// A table as it is printed: each whole row on a line, where the unchanged
-/// rows at the end of the whole rows, or else the zero rows there, are one
-/// line with their number; and the numbers past the last whole row on a last
-/// line.
+/// A table as it is printed: its digest if it is long, else its rows.
 fn table_text(table: &[u32], before: &[u32], width: usize) -> String {
+    if table.len() > LONGEST_PRINTED_TABLE {
+        format!("digest {}\n", digest(table))
+    } else {
+        rows_text(table, before, width)
+    }
+}
+
+/// One number for a whole table: 0, and for each number in order the digest so
+/// far times 31 plus that number, modulo `DIGEST_MODULUS`.
+fn digest(table: &[u32]) -> u64 {
+    table.iter().fold(0, |digest, number| {
+        (digest * 31 + u64::from(*number)) % DIGEST_MODULUS
+    })
+}
+
+/// Each whole row on a line, where the unchanged rows at the end of the whole
+/// rows, or else the zero rows there, are one line with their number; and the
+/// numbers past the last whole row on a last line.
+fn rows_text(table: &[u32], before: &[u32], width: usize) -> String {
     let rows: Vec<&[u32]> = table.chunks_exact(width).collect();
     let rows_before: Vec<&[u32]> = before.chunks_exact(width).collect();
     let unchanged = rows_at_end(&rows, |index| rows[index] == rows_before[index]);
@@ -238,6 +262,23 @@ mod tests {
                 rows: 7
             }
         );
+    }
+
+    #[test]
+    fn a_long_table_is_printed_as_its_digest() {
+        let mut table = vec![0; LONGEST_PRINTED_TABLE + 1];
+        table[LONGEST_PRINTED_TABLE - 2] = 3;
+        table[LONGEST_PRINTED_TABLE - 1] = 5;
+        table[LONGEST_PRINTED_TABLE] = 7;
+        assert_eq!(table_text(&table, &table, 3), "digest 3045\n");
+        let shorter = &table[1..];
+        assert_eq!(table_text(shorter, shorter, 3), "unchanged 4000\n");
+        table[0] = u32::MAX;
+        table[1] = 1;
+        // 4,294,967,295 is 4 modulo 4,294,967,291, and 4 times 31 plus 1 is 125.
+        assert_eq!(digest(&table[..1]), 4);
+        assert_eq!(digest(&table[..2]), 125);
+        assert_eq!(digest(&table[..8]), 125 * 31_u64.pow(6) % DIGEST_MODULUS);
     }
 
     #[test]

@@ -2,7 +2,9 @@
 
 mod bytes;
 mod depths;
+mod documented;
 mod examples;
+mod large;
 mod limits;
 mod order;
 mod programs;
@@ -92,7 +94,7 @@ const LEXICAL: [Family; 32] = [
 ];
 
 /// The families that are about whole readings.
-const WHOLE: [Family; 32] = [
+const WHOLE: [Family; 34] = [
     family("examples of the scope", |_| examples::readings_of_01()),
     family("examples of the readings", |_| examples::readings_of_03()),
     family("samples as they stand", |_| sampled::as_they_stand()),
@@ -145,6 +147,8 @@ const WHOLE: [Family; 32] = [
     family("tree table room", |_| tables::tree_room()),
     family("longest programs", |_| tables::longest_programs()),
     family("refusals in order", |_| order::pairs()),
+    family("large sources", |_| large::sources()),
+    family("scripts of the documents", |_| documented::scripts()),
 ];
 
 /// The cases of one family.

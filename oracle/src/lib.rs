@@ -2,10 +2,12 @@
 //! to compare another reader with. The command line is in `main.rs`.
 
 pub mod answer;
+pub mod borders;
 pub mod cases;
 pub mod coverage;
 pub mod declarations;
 pub mod desk;
+pub mod documents;
 pub mod expressions;
 pub mod families;
 pub mod generate;

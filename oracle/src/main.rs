@@ -1,6 +1,8 @@
 //! The command line: the case file and the output to it, what they cover, the
-//! tokens of a file, and a file's answer as the desk program prints it.
+//! scripts around the desk's limits, the tokens of a file, and a file's answer
+//! as the desk program prints it.
 
+use oracle::borders;
 use oracle::desk::{desk_output, line_of};
 use oracle::families;
 use oracle::report;
@@ -10,6 +12,8 @@ use std::io::Write;
 use std::process::ExitCode;
 
 const USAGE: &str = "usage: oracle cases stdin|stdout|coverage
+       oracle borders list|stdout
+       oracle borders script NAME
        oracle tokens FILE
        oracle read FILE";
 
@@ -20,6 +24,11 @@ fn main() -> ExitCode {
         ["cases", "stdin"] => Ok(families::input_file()),
         ["cases", "stdout"] => Ok(families::output_file().into_bytes()),
         ["cases", "coverage"] => coverage_text(),
+        ["borders", "list"] => Ok(borders::list_text().into_bytes()),
+        ["borders", "stdout"] => Ok(borders::output_text().into_bytes()),
+        ["borders", "script", name] => {
+            borders::script(name).ok_or_else(|| format!("{name}: there is no such script"))
+        }
         ["tokens", file] => with_file(file, tokens_text),
         ["read", file] => with_file(file, desk_output),
         _ => Err(USAGE.to_string()),

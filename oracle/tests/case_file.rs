@@ -5,8 +5,17 @@ mod support;
 use oracle::answer::Answer;
 use oracle::cases::*;
 use oracle::families::{all_cases, cases_of, input_file, names, output_file};
+use oracle::kinds::row;
 use oracle::scripts::SCRIPTS;
+use oracle::settings::SOURCE_LIMIT;
+use std::sync::OnceLock;
 use support::*;
+
+/// The output file, made once for all tests here.
+fn stored_output() -> &'static str {
+    static OUTPUT: OnceLock<String> = OnceLock::new();
+    OUTPUT.get_or_init(output_file)
+}
 
 #[test]
 fn the_cases_are_within_the_limits() {
@@ -17,11 +26,18 @@ fn the_cases_are_within_the_limits() {
         assert!(case.piece.len() <= LONGEST_PIECE);
         assert!(case.piece.len() * case.repeats <= LONGEST_SOURCE);
         assert!(case.names.len() <= LONGEST_NAME_LIST);
-        assert!(case.token_length <= LONGEST_TOKEN_TABLE);
+        assert!(case.token_length <= LARGE_TOKEN_TABLE);
         assert!(case.tree_length <= LONGEST_TREE_TABLE);
     }
+    let is_long = |case: &&Case| case.token_length > LONGEST_TOKEN_TABLE;
+    let long_tables: Vec<&Case> = cases.iter().filter(is_long).collect();
+    let large = family("large sources");
+    assert_eq!(
+        long_tables,
+        large.iter().filter(is_long).collect::<Vec<_>>()
+    );
     assert!(input_file().len() <= LONGEST_FILE);
-    assert!(output_file().len() <= 3_000_000);
+    assert!(stored_output().len() <= 3_400_000);
 }
 
 #[test]
@@ -36,7 +52,7 @@ fn every_family_has_cases_and_a_name_of_its_own() {
 #[test]
 fn the_files_are_the_same_on_every_run() {
     assert_eq!(input_file(), input_file());
-    assert_eq!(output_file(), output_file());
+    assert_eq!(output_file(), stored_output());
 }
 
 /// Reads one number of a header, which ends with a space or byte 10.
@@ -76,7 +92,7 @@ fn the_input_file_can_be_read_back() {
 
 #[test]
 fn the_output_has_one_answer_for_each_case() {
-    let output = output_file();
+    let output = stored_output();
     let is_answer = |line: &&str| line.starts_with("accepted ") || line.starts_with("refused ");
     let answers = output.lines().filter(is_answer).count();
     let trees = output.lines().filter(|line| *line == "tree").count();
@@ -132,11 +148,15 @@ fn outputs_of_refusals_before_the_tokens() {
     assert_eq!(long.token_table(4).tree_table(4).output(), expected);
 }
 
+/// The cases of one family, by its name.
+fn family(name: &str) -> Vec<Case> {
+    let index = names().iter().position(|found| *found == name);
+    cases_of(index.unwrap())
+}
+
 /// The answers of one family, by its name.
 fn answers_of(name: &str) -> Vec<Answer> {
-    let index = names().iter().position(|found| *found == name);
-    let cases = cases_of(index.unwrap());
-    cases.iter().map(|case| case.run().0).collect()
+    family(name).iter().map(|case| case.run().0).collect()
 }
 
 fn accepted(tokens: u32, rows: u32) -> Answer {
@@ -171,6 +191,48 @@ fn the_longest_sources_meet_their_answers() {
     ] {
         assert!(answers.contains(&expected), "{expected:?}");
     }
+}
+
+/// The kinds of the tree rows of a large source, with the token count, when
+/// it is read with room for all its rows.
+fn large_reading(case: &Case) -> (usize, Vec<u32>) {
+    let (answer, _, tree) = case.clone().tree_table(1_600_000).run();
+    match answer {
+        Answer::Accepted { tokens, rows } => {
+            let rows = tree.chunks_exact(4).take(rows as usize);
+            (tokens as usize, rows.map(|row| row[0]).collect())
+        }
+        refused => panic!("{refused:?}"),
+    }
+}
+
+#[test]
+fn the_large_sources_are_full_of_what_they_are_for() {
+    let cases = family("large sources");
+    let most = [
+        (row::LET, 112_800),
+        (row::VARIANT, 399_392),
+        (row::CONSTANT, 4_096),
+        (row::CONSTANT, 4_112),
+        (row::BLOCK, 195_520),
+    ];
+    assert_eq!(cases.len(), most.len());
+    for (case, (kind, count)) in cases.iter().zip(most) {
+        assert_eq!(case.piece.len() * case.repeats, SOURCE_LIMIT);
+        let (tokens, kinds) = large_reading(case);
+        assert!(tokens <= 400_000, "{tokens}");
+        assert_eq!(case.token_length, (tokens + 3) * 3 + 2);
+        assert_eq!(kinds.iter().filter(|found| **found == kind).count(), count);
+    }
+}
+
+#[test]
+fn the_large_sources_lack_only_room_in_the_tree_table() {
+    let rows = [284_145, 399_409, 12_289, 12_337, 197_601];
+    assert_eq!(
+        answers_of("large sources"),
+        rows.map(|rows| refused(8, rows))
+    );
 }
 
 #[test]

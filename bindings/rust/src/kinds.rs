@@ -1,6 +1,6 @@
 //! What each kind of row is called, by its number.
 
-/// The row kinds. Number 0 is no kind.
+/// The row kinds. Number 0 is not a kind.
 pub const ROW_KINDS: [&str; 47] = [
     "",
     "program",

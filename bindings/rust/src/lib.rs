@@ -1,6 +1,8 @@
 //! A reader of NURL source (grammar 1.7): bytes in, a table of tokens, a flat
 //! tree and an answer out. The reader itself is the static library libnurl.a;
-//! this crate is a safe call of it, and views of the two tables' rows.
+//! this crate is a safe call of it, and views of the two tables' rows. The
+//! repository's docs/LANGUAGE.md explains the language and its trees, and
+//! docs/REFUSALS.md each refusal.
 //!
 //! # Example
 //!

@@ -36,7 +36,7 @@ pub enum Answer {
     /// | 3 | a byte begins no token | its offset |
     /// | 4 | a string is not closed | the offset of its opening backtick |
     /// | 5 | there are more tokens than whole rows in the token table | the tokens needed |
-    /// | 6 | the tokens are no program | a token's index, or the token count at the end |
+    /// | 6 | the tokens are not a program | a token's index, or the token count at the end |
     /// | 7 | the tree is deeper than 200 levels | a token's index |
     /// | 8 | there are more tree rows than whole rows in the tree table | the rows needed |
     ///

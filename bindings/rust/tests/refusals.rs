@@ -54,7 +54,7 @@ fn a_lack_of_token_rows_is_refused_5() {
     untouched(b": i a 1", b"", 5, 4, &[0, 1, 9, 10, 11]);
 }
 
-/// The tokens of `: i a 1`, and of `: i a -`, which is no program.
+/// The tokens of `: i a 1`, and of `: i a -`, which is not a program.
 const CONSTANT: [u32; 12] = [12, 0, 1, 2, 2, 1, 1, 4, 1, 5, 6, 1];
 const CUT_SHORT: [u32; 12] = [12, 0, 1, 2, 2, 1, 1, 4, 1, 31, 6, 1];
 

@@ -82,3 +82,7 @@ answered l limit source names tokens rows = result (verdict l limit source names
 -- for grammar 1.7
 abbrev pub answer17 : List ℕ → List ℕ → List ℕ → List ℕ → Result
 answer17 = answered language17 levelLimit
+
+-- document 01's number and values of that answer
+abbrev pub answerValues : List ℕ → List ℕ → List ℕ → List ℕ → List ℕ
+answerValues source names tokens rows = values (answer17 source names tokens rows .answer)

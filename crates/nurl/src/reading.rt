@@ -13,7 +13,7 @@ ghost use Rattle.lexer.specs.Tokens.{clean, scan};
 ghost use Rattle.lexer.specs.Table.{sourceLimit, rowsOf};
 ghost use Rattle.typenames.specs.NameList.{nameLimit};
 ghost use Rattle.grammar.specs.Languages.{language17};
-ghost use Rattle.grammar.specs.Answers.{Result, answer17};
+ghost use Rattle.grammar.specs.Answers.{values, Result, answer17, answerValues};
 ghost use Rattle.grammar.specs.Demands.{Demands};
 ghost use Rattle.nurl.specs.Results.{treeResult};
 
@@ -40,24 +40,19 @@ fn read_tokens(source: &[u8], names: &[u8], tokens: &[u32], rows: &mut [u32]) ->
     let mut buffer = names_buffer();
     let size = typenames::SLOTS + names.len();
     typenames::prepare(source, names, tokens, &mut buffer[..size]);
-    let room = tree::room(rows);
-    let end = room * tree::WIDTH;
     let step = parser::read_program(
         source,
         &buffer[..size],
         tokens,
-        &mut rows[..end],
+        rows,
         Scope::Program,
         LEVEL_LIMIT,
     );
     match step {
-        Step::Refused(number, place) => {
-            tree::clear(&mut rows[..end]);
-            Answer::Refused(number, place)
-        }
+        Step::Refused(number, place) => Answer::Refused(number, place),
         Step::Read(count, needed) => {
-            if room < needed {
-                tree::clear(&mut rows[..end]);
+            if tree::room(rows) < needed {
+                tree::clear(rows);
                 return Answer::Refused(8, needed);
             }
             Answer::Accepted(count, needed)
@@ -72,6 +67,8 @@ pub fn read(source: &[u8], names: &[u8], tokens: &mut [u32], rows: &mut [u32]) -
     ensures demands { λ r. ⌜ Demands language17 (now (source .entry)) (now (names .entry)) 200
         (now (tokens .entry)) (now (rows .entry))
         (record { answer = r; tokens = now (tokens .exit); rows = now (rows .exit) }) ⌝ }
+    ensures values { λ r. ⌜ values r
+        ≡ answerValues (now (source .entry)) (now (names .entry)) (now (tokens .entry)) (now (rows .entry)) ⌝ }
 {
     if lexer::SOURCE_LIMIT < source.len() {
         return Answer::Refused(1, 0);

@@ -2,7 +2,7 @@
 use Prim.Native.Nat.{ℕ, _*_, _<_, _≤_}
 use mathlib.Core.Path.{_≡_, refl, sym, _∙_, ap}
 use mathlib.Core.Bool.{Bool, true, false}
-use mathlib.Core.List.{List, [], _∷_, _++_}
+use mathlib.Core.List.{List}
 use mathlib.Core.Logic.{_⊎_, inl, inr}
 use native.Mathlib.Omega.{arith}
 use lib.Dec.{leb, ltb}
@@ -22,23 +22,24 @@ use Rattle.typenames.specs.NameList.{nameLimit, entries, firstBad, checked}
 use Rattle.typenames.specs.declared.Checked.{Checked}
 use Rattle.typenames.specs.declared.Checked.the-variants.{Good}
 use Rattle.typenames.proofs.Laws.Entries.{checked-two}
-use Rattle.grammar.specs.Rows.{Row}
 use Rattle.grammar.specs.Reading.{Outcome, ok, stuck, deep, spent}
 use Rattle.grammar.specs.Languages.{language17}
 use Rattle.grammar.specs.Sources.{readTokens}
 use Rattle.grammar.specs.TreeTable.{treeRoom}
-use Rattle.grammar.specs.Answers.{levelLimit, Verdict, early, late, accept, judged, Result, result, answer17}
+use Rattle.grammar.specs.Answers.{levelLimit, late, accept, judged, values, Result, result, answer17, answerValues}
 use Rattle.grammar.specs.Demands.{Admitted, Readable, too-long, bad-names, bad-byte, open-string, few-token-rows, Demands}
 use Rattle.grammar.specs.declared.Answer.{Answer}
-use Rattle.grammar.specs.declared.Answer.the-variants.{Accepted, Refused}
+use Rattle.grammar.specs.declared.Answer.the-variants.{Refused}
 use Rattle.grammar.proofs.Laws.Answers.{read-result}
-use Rattle.grammar.proofs.Laws.Nurl17.{fit17, answer17-meets}
+use Rattle.grammar.proofs.Laws.Nurl17.{answer17-meets}
 use Rattle.nurl.specs.Results.{treeResult}
 
--- a result is the answer, and so has the demands
+-- a result is the answer, and so has the demands and the answer's numbers
 pub meets : (source names tokens rows : List ℕ) (r : Result) → r ≡ answer17 source names tokens rows
-    → (r ≡ answer17 source names tokens rows) × (Demands language17 source names levelLimit tokens rows r)
-meets source names tokens rows r h = (h, rw h (answer17-meets source names tokens rows))
+    → (r ≡ answer17 source names tokens rows)
+    × ((Demands language17 source names levelLimit tokens rows r) × (values (r .answer) ≡ answerValues source names tokens rows))
+meets source names tokens rows r h =
+    (h, (rw h (answer17-meets source names tokens rows), ap (λ (x : Result). values (x .answer)) h))
 
 -- what a reading of the tokens says does not depend on what else the token table holds
 rest-same : (ts : List Token) (lent tokens rows : List ℕ) (o : Outcome)

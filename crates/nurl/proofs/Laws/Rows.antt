@@ -1,22 +1,22 @@
 -- What the reader of a whole program answers and leaves in the whole rows of the tree table, as document 01's No. 6 to 8 and
 -- acceptance. Assumes nothing.
-use Prim.Native.Nat.{ℕ, zero, suc, _+_, _*_, _/_, _<_, _≤_}
+use Prim.Native.Nat.{ℕ, zero, suc, _+_, _<_, _≤_}
 use mathlib.Core.Path.{_≡_, refl, sym, _∙_, ap, subst}
-use mathlib.Core.Bool.{Bool, true}
-use mathlib.Core.List.{List, [], _∷_, _++_, append-assoc}
+use mathlib.Core.Bool.{true}
+use mathlib.Core.List.{List, _++_}
 use mathlib.Core.Logic.{_⊎_, inl, inr}
 use native.Mathlib.Omega.{arith}
-use lib.ListN.{length, take, drop, getD, replicate, length-append, take-append-drop, drop-of-length-le}
-use lib.Seq.{drop-append-le, length-take-le, take-at, drop-at}
+use lib.ListN.{length, take, getD, length-append}
+use lib.Seq.{length-take-le, take-at}
 use borrow.Author.Tests.{le-leb, lt-leb}
 use Rattle.lexer.specs.Tests.{and, between}
 use Rattle.lexer.specs.Kinds.{firstKind, lastKind}
 use Rattle.lexer.specs.Editions.{edition17}
 use Rattle.lexer.specs.Tokens.{Token, clean, scan}
-use Rattle.lexer.specs.Table.{sourceLimit, tokenRoom, rowsOf, rowAt, kindAt, noToken}
+use Rattle.lexer.specs.Table.{sourceLimit, tokenRoom, rowsOf, rowAt, noToken}
 use Rattle.lexer.proofs.Laws.Counts.{spelled17}
 use Rattle.lexer.proofs.Laws.Rows.{rows-of-length}
-use Rattle.lexer.proofs.Laws.Places.{Inside, Placed, placed-none, placed-more, tokens-placed, tokens-few}
+use Rattle.lexer.proofs.Laws.Places.{Placed, placed-none, placed-more, tokens-placed, tokens-few}
 use Rattle.typenames.specs.TypeNames.{Item, items, opening17}
 use Rattle.typenames.specs.Prepared.{preparedNames}
 use Rattle.typenames.specs.declared.Scope.the-variants.{Program}
@@ -27,7 +27,7 @@ use Rattle.grammar.specs.Nonterminals.{program}
 use Rattle.grammar.specs.Nurl.{productions17}
 use Rattle.grammar.specs.Languages.{language17}
 use Rattle.grammar.specs.Sources.{viewOf, namesOf, readTokens}
-use Rattle.grammar.specs.TreeTable.{treeWidth, treeRoom, treeRows, placed, cleared}
+use Rattle.grammar.specs.TreeTable.{treeRoom, cleared}
 use Rattle.grammar.specs.Answers.{levelLimit, judged, result}
 use Rattle.grammar.specs.declared.Answer.the-variants.{Accepted, Refused}
 use Rattle.grammar.proofs.Laws.Sources.{read-from}
@@ -37,45 +37,9 @@ use Rattle.parser.specs.Steps.{Tokens}
 use Rattle.parser.specs.Readings.{Gives, Reads, read, refused6, refused7, passed, ReadsWhole}
 use Rattle.parser.specs.declared.Step.{Step}
 use Rattle.parser.specs.declared.Step.the-variants.{Read}
-use Rattle.parser.proofs.Laws.Trees.{length-put, put-placed}
+use Rattle.parser.proofs.Laws.Trees.{put-placed}
+use Rattle.parser.proofs.Laws.WholeRows.{cleared-put}
 use Rattle.nurl.specs.Results.{treeResult}
-
--- a table with the whole rows of its first numbers cleared
-abbrev clearedFront : ℕ → List ℕ → List ℕ
-clearedFront size table = cleared (take size table) ++ drop size table
-
--- the whole rows of a table, and then the numbers past them
-module _ (rows : List ℕ) where
-  abbrev end : ℕ
-  end = treeRoom rows * treeWidth
-
-  end-inside : end ≤ length rows
-  end-inside = omega arith
-
-  whole-room : treeRoom (take end rows) ≡ treeRoom rows
-  whole-room = let l = length-take-le end rows end-inside in omega arith
-
-  placed-whole : (rs : List Row) → length rs ≤ treeRoom rows → placed rs (take end rows) ++ drop end rows ≡ placed rs rows
-  unfolding placed
-  placed-whole rs room =
-      let l = length-take-le end rows end-inside in
-      let inside : length rs * treeWidth ≤ length (take end rows) = omega arith in
-      let seam = drop-append-le (length rs * treeWidth) (take end rows) (drop end rows) inside in
-      append-assoc (treeRows rs) (drop (length rs * treeWidth) (take end rows)) (drop end rows)
-      ∙ ap (λ (numbers : List ℕ). treeRows rs ++ numbers)
-      (sym seam ∙ ap (drop (length rs * treeWidth)) (take-append-drop end rows))
-
-  -- the whole rows cleared, whatever was put into them
-  cleared-whole : (after : List ℕ) → length after ≡ length (take end rows)
-      → clearedFront end (after ++ drop end rows) ≡ cleared rows
-  unfolding cleared
-  cleared-whole after same =
-      let l = length-take-le end rows end-inside in
-      let here : length after ≡ end = omega arith in
-      let room : treeRoom after ≡ treeRoom rows = omega arith in
-      let none = drop-of-length-le after {i = end} (omega arith) in
-      rw (take-at after (drop end rows) end here, drop-at after (drop end rows) end here, room, none)
-      (append-assoc (replicate end 0) [] (drop end rows))
 
 -- what a reader of some symbols says, from the first token and row on
 module _ (v : View) (count : ℕ) (e : Names) (n : ℕ) (table after : List ℕ) where
@@ -102,10 +66,11 @@ module _ (v : View) (count : ℕ) (e : Names) (n : ℕ) (table after : List ℕ)
   read-to from to (refused7 g l) start j k goal = let z : _≡_ {A = ℕ} 0 1 = cc in absurd (omega arith)
   read-to from to (passed l) start j k goal = let z : _≡_ {A = ℕ} 0 1 = cc in absurd (omega arith)
 
-  pub record StoppedAt (number place : ℕ) : Type 0 where
-    says : ((number ≡ 6) × (Gives productions17 v e n (whole program) 0 (stuck place)))
-        ⊎ ((number ≡ 7) × (Gives productions17 v e n (whole program) 0 (deep place)))
-    same-length : length after ≡ length table
+  -- .. or what it refuses
+  abbrev StoppedAt : ℕ → ℕ → Type 0
+  StoppedAt number place =
+      ((number ≡ 6) × (Gives productions17 v e n (whole program) 0 (stuck place)))
+      ⊎ ((number ≡ 7) × (Gives productions17 v e n (whole program) 0 (deep place)))
 
   stopped-at : (from to : Step) → Reads productions17 v count e n 0 1 (whole program) from table to after → from ≡ Read 0 0
       → (number place : ℕ) → to ≡ Step.Refused number place → StoppedAt number place
@@ -114,12 +79,12 @@ module _ (v : View) (count : ℕ) (e : Names) (n : ℕ) (table after : List ℕ)
       let at : i ≡ 0 = cc in
       let far : place ≡ where-to = cc in
       let six : number ≡ 6 = cc in
-      record { says = inl (six, rw (← far) (subst (λ (i : ℕ). Gives productions17 v e n (whole program) i (stuck place)) at g)); same-length = l }
+      inl (six, rw (← far) (subst (λ (i : ℕ). Gives productions17 v e n (whole program) i (stuck place)) at g))
   stopped-at from to (refused7 {i} {r} {place} g l) start number where-to goal =
       let at : i ≡ 0 = cc in
       let far : place ≡ where-to = cc in
       let seven : number ≡ 7 = cc in
-      record { says = inr (seven, rw (← far) (subst (λ (i : ℕ). Gives productions17 v e n (whole program) i (deep place)) at g)); same-length = l }
+      inr (seven, rw (← far) (subst (λ (i : ℕ). Gives productions17 v e n (whole program) i (deep place)) at g))
   stopped-at from to (passed l) start number place goal = let z : _≡_ {A = ℕ} 0 1 = cc in absurd (omega arith)
 
 -- a part that was lent comes back with its length, at the front
@@ -175,44 +140,33 @@ module _ (source names tokens : List ℕ) (short : length source ≤ sourceLimit
 
     -- rows that were put, with room for them and without
     accepted-by : (count needed : ℕ) (rs : List Row) → readTokens language17 levelLimit source names (rowsOf tokens) ≡ ok count rs 0
-        → needed ≡ length rs → after ≡ put 0 rs (take (end rows) rows) → needed ≤ treeRoom rows
-        → (Accepted count needed ≡ treeResult source names tokens rows .answer)
-        × (after ++ drop (end rows) rows ≡ treeResult source names tokens rows .rows)
+        → needed ≡ length rs → after ≡ put 0 rs rows → needed ≤ treeRoom rows
+        → (Accepted count needed ≡ treeResult source names tokens rows .answer) × (after ≡ treeResult source names tokens rows .rows)
     unfolding judged result
     accepted-by count needed rs said enough there room =
         let all = sound17 source names (rowsOf tokens) scans levelLimit count 0 rs said .0 in
         let fits : length rs ≤ treeRoom rows = omega arith in
-        let w = whole-room rows in
-        rw (said, le-leb (length rs) (treeRoom rows) fits, all, enough, there, put-placed rs (take (end rows) rows) (omega arith))
-        (refl, placed-whole rows rs fits)
+        rw (said, le-leb (length rs) (treeRoom rows) fits, all, enough, there, put-placed rs rows fits) (refl, refl)
 
     full-by : (count needed : ℕ) (rs : List Row) → readTokens language17 levelLimit source names (rowsOf tokens) ≡ ok count rs 0
-        → needed ≡ length rs → after ≡ put 0 rs (take (end rows) rows) → treeRoom rows < needed
-        → (Refused 8 needed ≡ treeResult source names tokens rows .answer)
-        × (clearedFront (end rows) (after ++ drop (end rows) rows) ≡ treeResult source names tokens rows .rows)
+        → needed ≡ length rs → after ≡ put 0 rs rows → treeRoom rows < needed
+        → (Refused 8 needed ≡ treeResult source names tokens rows .answer) × (cleared after ≡ treeResult source names tokens rows .rows)
     unfolding judged result
     full-by count needed rs said enough there room =
         let over : treeRoom rows < length rs = omega arith in
-        let same = ap length there ∙ length-put 0 rs (take (end rows) rows) in
-        rw (said, lt-leb (length rs) (treeRoom rows) over, enough) (refl, cleared-whole rows after same)
+        rw (said, lt-leb (length rs) (treeRoom rows) over, enough, there) (refl, cleared-put rows 0 rs)
 
-    -- from the reader's answer, with a prepared list that gives the names, and with so much room
-    module _ (prepared : List ℕ) (named : preparedNames opening17 prepared (items source (rowsOf tokens)) ≡ e)
-        (room : ℕ) (is-room : room ≡ treeRoom rows) (step : Step)
-        (whole-reads : ReadsWhole source prepared tokens Program levelLimit (take (room * treeWidth) rows) step after)
+    -- from the reader's answer, with a prepared list that gives the names
+    module _ (prepared : List ℕ) (named : preparedNames opening17 prepared (items source (rowsOf tokens)) ≡ e) (step : Step)
+        (whole-reads : ReadsWhole source prepared tokens Program levelLimit rows step after)
       where
-        in-names : Reads productions17 v (tokenRoom tokens) e levelLimit 0 1 (whole program) (Read 0 0) (take (room * treeWidth) rows) step after
+        in-names : Reads productions17 v (tokenRoom tokens) e levelLimit 0 1 (whole program) (Read 0 0) rows step after
         in-names =
-            subst (λ (f : Names). Reads productions17 v (tokenRoom tokens) f levelLimit 0 1 (whole program) (Read 0 0)
-            (take (room * treeWidth) rows) step after) named whole-reads
+            subst (λ (f : Names). Reads productions17 v (tokenRoom tokens) f levelLimit 0 1 (whole program) (Read 0 0) rows step after)
+            named whole-reads
 
-        in-room : Reads productions17 v (tokenRoom tokens) e levelLimit 0 1 (whole program) (Read 0 0) (take (end rows) rows) step after
-        in-room =
-            subst (λ (m : ℕ). Reads productions17 v (tokenRoom tokens) e levelLimit 0 1 (whole program) (Read 0 0)
-            (take (m * treeWidth) rows) step after) is-room in-names
-
-        read-rows : (count needed : ℕ) → step ≡ Read count needed → ReadTo v (tokenRoom tokens) e levelLimit (take (end rows) rows) after count needed
-        read-rows count needed h = read-to v (tokenRoom tokens) e levelLimit (take (end rows) rows) after (Read 0 0) step in-room refl count needed h
+        read-rows : (count needed : ℕ) → step ≡ Read count needed → ReadTo v (tokenRoom tokens) e levelLimit rows after count needed
+        read-rows count needed h = read-to v (tokenRoom tokens) e levelLimit rows after (Read 0 0) step in-names refl count needed h
 
         reads-ok : (count needed : ℕ) (h : step ≡ Read count needed)
             → readTokens language17 levelLimit source names (rowsOf tokens) ≡ ok count (read-rows count needed h .row-list) 0
@@ -221,36 +175,30 @@ module _ (source names tokens : List ℕ) (short : length source ≤ sourceLimit
             reads (ok count (to .row-list) 0) (to .gives)
             (λ (z : ok count (to .row-list) 0 ≡ spent). let q : _≡_ {A = ℕ} 0 1 = cc in omega arith)
 
-        pub accepted-rows : (count needed : ℕ) → step ≡ Read count needed → needed ≤ room
-            → (Accepted count needed ≡ treeResult source names tokens rows .answer)
-            × (after ++ drop (room * treeWidth) rows ≡ treeResult source names tokens rows .rows)
+        pub accepted-rows : (count needed : ℕ) → step ≡ Read count needed → needed ≤ treeRoom rows
+            → (Accepted count needed ≡ treeResult source names tokens rows .answer) × (after ≡ treeResult source names tokens rows .rows)
         accepted-rows count needed h fits =
             let to = read-rows count needed h in
-            rw is-room (accepted-by count needed (to .row-list) (reads-ok count needed h) (to .enough) (to .put-there) (omega arith))
+            accepted-by count needed (to .row-list) (reads-ok count needed h) (to .enough) (to .put-there) fits
 
-        pub full-rows : (count needed : ℕ) → step ≡ Read count needed → room < needed
-            → (Refused 8 needed ≡ treeResult source names tokens rows .answer)
-            × (clearedFront (room * treeWidth) (after ++ drop (room * treeWidth) rows) ≡ treeResult source names tokens rows .rows)
+        pub full-rows : (count needed : ℕ) → step ≡ Read count needed → treeRoom rows < needed
+            → (Refused 8 needed ≡ treeResult source names tokens rows .answer) × (cleared after ≡ treeResult source names tokens rows .rows)
         full-rows count needed h over =
             let to = read-rows count needed h in
-            rw is-room (full-by count needed (to .row-list) (reads-ok count needed h) (to .enough) (to .put-there) (omega arith))
+            full-by count needed (to .row-list) (reads-ok count needed h) (to .enough) (to .put-there) over
 
-        pub refused-rows : (number place : ℕ) → step ≡ Step.Refused number place
-            → (Refused number place ≡ treeResult source names tokens rows .answer)
-            × (clearedFront (room * treeWidth) (after ++ drop (room * treeWidth) rows) ≡ treeResult source names tokens rows .rows)
+        pub refused-rows : (number place : ℕ) → step ≡ Step.Refused number place → after ≡ cleared rows
+            → (Refused number place ≡ treeResult source names tokens rows .answer) × (after ≡ treeResult source names tokens rows .rows)
         unfolding judged result
-        refused-rows number place h =
-            let stopped = stopped-at v (tokenRoom tokens) e levelLimit (take (end rows) rows) after (Read 0 0) step in-room refl number place h in
-            rw is-room (cases (stopped .says) (cleared-whole rows after (stopped .same-length)))
+        refused-rows number place h clear =
+            cases (stopped-at v (tokenRoom tokens) e levelLimit rows after (Read 0 0) step in-names refl number place h)
           where
             cases : ((number ≡ 6) × (Gives productions17 v e levelLimit (whole program) 0 (stuck place)))
                 ⊎ ((number ≡ 7) × (Gives productions17 v e levelLimit (whole program) 0 (deep place)))
-                → clearedFront (end rows) (after ++ drop (end rows) rows) ≡ cleared rows
-                → (Refused number place ≡ treeResult source names tokens rows .answer)
-                × (clearedFront (end rows) (after ++ drop (end rows) rows) ≡ treeResult source names tokens rows .rows)
-            cases (inl (six, g)) clear =
+                → (Refused number place ≡ treeResult source names tokens rows .answer) × (after ≡ treeResult source names tokens rows .rows)
+            cases (inl (six, g)) =
                 let said = reads (stuck place) g (λ (z : stuck place ≡ spent). let q : _≡_ {A = ℕ} 0 1 = cc in omega arith) in
                 rw (said, six) (refl, clear)
-            cases (inr (seven, g)) clear =
+            cases (inr (seven, g)) =
                 let said = reads (deep place) g (λ (z : deep place ≡ spent). let q : _≡_ {A = ℕ} 0 1 = cc in omega arith) in
                 rw (said, seven) (refl, clear)

@@ -1,13 +1,13 @@
 -- A reader that is lent only the whole rows of a tree table: what it puts stands in the table, and the numbers past the last whole
 -- row are as they were. Assumes nothing.
-use Prim.Native.Nat.{ℕ, suc, _+_, _*_, _/_, _<_, _≤_}
+use Prim.Native.Nat.{ℕ, suc, _+_, _*_, _<_, _≤_}
 use mathlib.Core.Path.{_≡_, refl, sym, _∙_, ap}
 use mathlib.Core.Bool.{Bool, true, false}
 use mathlib.Core.List.{List, [], _∷_, _++_}
 use native.Mathlib.Omega.{arith}
 use lib.Dec.{ltb}
 use lib.ListN.{length, take, drop, set, length-append, length-drop, length-set, length-replicate, take-append-drop}
-use lib.Seq.{sets, length-sets, set-append-left, length-take-le, drop-at}
+use lib.Seq.{sets, set-append-left, length-take-le, drop-at}
 use borrow.Author.Tests.{ltb-true}
 use Rattle.lexer.specs.Tests.{pick}
 use Rattle.grammar.specs.Grammars.{Symbol, Production, Names, View}
@@ -17,7 +17,7 @@ use Rattle.parser.specs.Trees.{putRow, put}
 use Rattle.parser.specs.Readings.{Reads, read, refused6, refused7, passed}
 use Rattle.parser.specs.declared.Step.{Step}
 use Rattle.parser.specs.declared.Step.the-variants.{Read, Refused}
-use Rattle.parser.proofs.Laws.Trees.{length-putRow}
+use Rattle.parser.proofs.Laws.Trees.{length-putRow, length-put}
 
 -- numbers written inside the front of a table leave what follows it
 sets-front : (front rest : List ℕ) (i : ℕ) (vs : List ℕ) → i + length vs ≤ length front → sets (front ++ rest) i vs ≡ sets front i vs ++ rest
@@ -70,7 +70,7 @@ module _ (table : List ℕ) where
       ∙ ap (put r xs) (take-append-drop end table)
 
   -- the whole rows cleared, whatever they held
-  pub cleared-whole : (after : List ℕ) → length after ≡ length (take end table) → cleared (after ++ drop end table) ≡ cleared table
+  cleared-whole : (after : List ℕ) → length after ≡ length (take end table) → cleared (after ++ drop end table) ≡ cleared table
   unfolding cleared
   cleared-whole after same =
       let l = length-take-le end table end-inside in
@@ -79,6 +79,10 @@ module _ (table : List ℕ) where
       let past = length-drop end table in
       let room : treeRoom (after ++ drop end table) ≡ treeRoom table = omega arith in
       rw (room, drop-at after (drop end table) end here)
+
+  -- .. and after rows were put into them
+  pub cleared-put : (r : ℕ) (xs : List Row) → cleared (put r xs table) ≡ cleared table
+  cleared-put r xs = ap cleared (sym (put-whole r xs)) ∙ cleared-whole (put r xs (take end table)) (length-put r xs (take end table))
 
 -- what a reader of some symbols reads into the whole rows, and what it refuses
 module _ {g : List Production} {v : View} {count : ℕ} {e : Names} {n least more : ℕ} {ss : List Symbol} (table : List ℕ) (size : ℕ)

@@ -18,7 +18,7 @@ cast-t15 c =
     let args = c .before .before .before .before .before .before .before .before .before .before .before .before .before .before .args in
     let read = c .before .before .before .before .before .before .before .read in
     let found = c .before .found in
-    let small = accepted-small (args .source .now) (args .names .now) (args .tokens .now) (args .rows .now) _ (read .ensures .1) _ _ (found .given .1) in
+    let small = accepted-small (args .source .now) (args .names .now) (args .tokens .now) (args .rows .now) _ (read .ensures .1 .0) _ _ (found .given .1) in
     omega (arith, small .0)
 
 cast-t16 : tie.Need-cast-t16
@@ -26,7 +26,7 @@ cast-t16 c =
     let args = c .before .before .before .before .before .before .before .before .before .before .before .before .before .before .args in
     let read = c .before .before .before .before .before .before .before .read in
     let found = c .before .found in
-    let small = accepted-small (args .source .now) (args .names .now) (args .tokens .now) (args .rows .now) _ (read .ensures .1) _ _ (found .given .1) in
+    let small = accepted-small (args .source .now) (args .names .now) (args .tokens .now) (args .rows .now) _ (read .ensures .1 .0) _ _ (found .given .1) in
     omega (arith, small .1)
 
 enum-known-found-2 : tie.Need-enum-known-found-2
@@ -37,7 +37,7 @@ cast-t17 c =
     let args = c .before .before .before .before .before .before .before .before .before .before .before .before .before .before .args in
     let read = c .before .before .before .before .before .before .before .read in
     let found2 = c .before .found2 in
-    let small = refused-small (args .source .now) (args .names .now) (args .tokens .now) (args .rows .now) _ (read .ensures .1) _ _ (found2 .given .1) in
+    let small = refused-small (args .source .now) (args .names .now) (args .tokens .now) (args .rows .now) _ (read .ensures .1 .0) _ _ (found2 .given .1) in
     omega arith
 
 same-length : tie.Need-same-length

@@ -40,10 +40,10 @@ mul-end c =
     let tokenize = c .before .before .before .before .before .tokenize in
     let scanned2 = c .before .scanned2 in
     let if1 = c .before .before .before .before .before .before .before .before .before .before .if1 in
-    let good = sym (check-names .ensures) ∙ enum-told .given .1 in
+    let good = sym (check-names .ensures .0) ∙ enum-told .given .1 in
     let said = sym (tokenize .ensures .0) ∙ scanned2 .given .1 in
     let inside = lent-inside (args .source .now) (args .names .now) (args .tokens .now) (args .rows .now) (if1 .left) good _ _ said
-    (tokenize .ensures .1) in
+    (tokenize .ensures .1 .0) in
     omega arith
 
 slice-reshare-prefix-read-tokens : tie.Need-slice-reshare-prefix-read-tokens
@@ -54,9 +54,9 @@ slice-reshare-prefix-read-tokens c =
     let tokenize = c .before .before .before .before .before .tokenize in
     let scanned2 = c .before .scanned2 in
     let if1 = c .before .before .before .before .before .before .before .before .before .before .if1 in
-    let good = sym (check-names .ensures) ∙ enum-told .given .1 in
+    let good = sym (check-names .ensures .0) ∙ enum-told .given .1 in
     let said = sym (tokenize .ensures .0) ∙ scanned2 .given .1 in
-    lent-after (args .source .now) (args .names .now) (args .tokens .now) (args .rows .now) (if1 .left) good _ _ said (tokenize .ensures .1)
+    lent-after (args .source .now) (args .names .now) (args .tokens .now) (args .rows .now) (if1 .left) good _ _ said (tokenize .ensures .1 .0)
 
 slice-aggregate-read-tokens : tie.Need-slice-aggregate-read-tokens
 slice-aggregate-read-tokens c =
@@ -66,10 +66,10 @@ slice-aggregate-read-tokens c =
     let tokenize = c .before .before .before .before .before .before .tokenize in
     let scanned2 = c .before .before .scanned2 in
     let if1 = c .before .before .before .before .before .before .before .before .before .before .before .if1 in
-    let good = sym (check-names .ensures) ∙ enum-told .given .1 in
+    let good = sym (check-names .ensures .0) ∙ enum-told .given .1 in
     let said = sym (tokenize .ensures .0) ∙ scanned2 .given .1 in
     sym (length-take-le _ _
-    (lent-after (args .source .now) (args .names .now) (args .tokens .now) (args .rows .now) (if1 .left) good _ _ said (tokenize .ensures .1)))
+    (lent-after (args .source .now) (args .names .now) (args .tokens .now) (args .rows .now) (if1 .left) good _ _ said (tokenize .ensures .1 .0)))
 
 read-tokens-requires : tie.Need-read-tokens-requires
 read-tokens-requires c κs =
@@ -79,12 +79,12 @@ read-tokens-requires c κs =
     let tokenize = c .before .before .before .before .before .before .before .tokenize in
     let scanned2 = c .before .before .before .scanned2 in
     let if1 = c .before .before .before .before .before .before .before .before .before .before .before .before .if1 in
-    let good = sym (check-names .ensures) ∙ enum-told .given .1 in
+    let good = sym (check-names .ensures .0) ∙ enum-told .given .1 in
     let said = sym (tokenize .ensures .0) ∙ scanned2 .given .1 in (
       if1 .left,
       (
         good-short (args .names .now) good,
-        lent-scan (args .source .now) (args .names .now) (args .tokens .now) (args .rows .now) (if1 .left) good _ _ said (tokenize .ensures .1),
+        lent-scan (args .source .now) (args .names .now) (args .tokens .now) (args .rows .now) (if1 .left) good _ _ said (tokenize .ensures .1 .0),
       ),
     )
 
@@ -96,7 +96,7 @@ returns-2 c =
     let checked = c .before .checked in
     meets (args .source .now) (args .names .now) (args .tokens .now) (args .rows .now) _
     (refused-names (args .source .now) (args .names .now) (args .tokens .now) (args .rows .now) _ _ (if1 .left)
-    (sym (check-names .ensures) ∙ checked .given .1))
+    (sym (check-names .ensures .0) ∙ checked .given .1))
 
 same-length : tie.Need-same-length
 same-length c = search needs
@@ -109,11 +109,11 @@ returns-3 c =
     let tokenize = c .before .before .before .before .before .tokenize in
     let scanned = c .before .scanned in
     let if1 = c .before .before .before .before .before .before .before .before .before .before .if1 in
-    let good = sym (check-names .ensures) ∙ enum-told .given .1 in
+    let good = sym (check-names .ensures .0) ∙ enum-told .given .1 in
     let said = sym (tokenize .ensures .0) ∙ scanned .given .1 in
     meets (args .source .now) (args .names .now) (args .tokens .now) (args .rows .now) _
     (refused-tokens (args .source .now) (args .names .now) (args .tokens .now) (args .rows .now) (if1 .left) good _ _ _ said
-    (tokenize .ensures .1))
+    (tokenize .ensures .1 .0))
 
 same-length-2 : tie.Need-same-length-2
 same-length-2 c = search needs
@@ -130,10 +130,10 @@ returns-4 c =
     let scanned2 = c .before .before .before .before .before .before .scanned2 in
     let if1 = c .before .before .before .before .before .before .before .before .before .before .before .before .before .before .before .if1 in
     let read-tokens = c .before .before .read-tokens in
-    let good = sym (check-names .ensures) ∙ enum-told .given .1 in
+    let good = sym (check-names .ensures .0) ∙ enum-told .given .1 in
     let said = sym (tokenize .ensures .0) ∙ scanned2 .given .1 in
     meets (args .source .now) (args .names .now) (args .tokens .now) (args .rows .now) _
-    (read-rest (args .source .now) (args .names .now) (args .tokens .now) (args .rows .now) (if1 .left) good _ _ said (tokenize .ensures .1)
+    (read-rest (args .source .now) (args .names .now) (args .tokens .now) (args .rows .now) (if1 .left) good _ _ said (tokenize .ensures .1 .0)
     _ _ (read-tokens .ensures .0) (read-tokens .ensures .1))
 
 pub read-spec : {M : Type 1} → statement M

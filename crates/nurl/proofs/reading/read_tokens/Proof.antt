@@ -1,10 +1,16 @@
 -- `nurl::reading::read_tokens` meets its contract: what the reader of the program says, with room for its rows or without. Assumes
 -- nothing.
-use Prim.Native.Nat.{_+_, _*_}
-use mathlib.Core.Path.{sym}
+use Prim.Native.Nat.{_+_}
+use mathlib.Core.Path.{_≡_, sym, _∙_}
+use mathlib.Core.List.{_++_}
 use native.Mathlib.Omega.{arith}
-use lib.ListN.{length, drop}
+use lib.ListN.{length, take, drop}
 use lib.Seq.{length-take-le}
+use Rattle.lexer.specs.Table.{rowsOf}
+use Rattle.typenames.specs.TypeNames.{items, opening17}
+use Rattle.typenames.specs.Prepared.{preparedNames}
+use Rattle.grammar.specs.Languages.{language17}
+use Rattle.grammar.specs.Sources.{namesOf}
 use Rattle.nurl.proofs.Laws.Rows.{kept-size, front-inside, front-counts, lent-names, tokens-good, accepted-rows, full-rows}
 use Rattle.nurl.proofs.Laws.Rows.{refused-rows}
 use borrow.Author.Needs.{needs}
@@ -15,188 +21,130 @@ names-buffer-requires : tie.Need-names-buffer-requires
 names-buffer-requires c κs = search needs
 
 add-size : tie.Need-add-size
-add-size c =
-    let pre = c .before .before .before .before .before .pre in
-    omega (arith, pre .1 .0)
+add-size c = search needs
 
 array-borrow-prefix-buffer : tie.Need-array-borrow-prefix-buffer
-array-borrow-prefix-buffer c =
-    let pre = c .before .before .before .before .before .pre in
-    let size = c .names-buffer .ensures in
-    omega (arith, pre .1 .0)
+array-borrow-prefix-buffer c = search needs
 
 slice-aggregate-prepare : tie.Need-slice-aggregate-prepare
 slice-aggregate-prepare c =
-    let names-buffer = c .before .names-buffer in
+    let size = c .before .names-buffer .ensures in
     let pre = c .before .before .before .before .before .before .pre in
-    let size = names-buffer .ensures in
     let short = pre .1 .0 in
     sym (length-take-le _ _ (omega arith))
 
 prepare-requires : tie.Need-prepare-requires
 prepare-requires c κs =
-    let names-buffer = c .before .names-buffer in
+    let size = c .before .names-buffer .ensures in
     let pre = c .before .before .before .before .before .before .pre in
-    let size = names-buffer .ensures in
     let short = pre .1 .0 in
     length-take-le _ _ (omega arith)
 
-room-requires : tie.Need-room-requires
-room-requires c κs = search needs
-
-mul-end : tie.Need-mul-end
-mul-end c = search needs
+-- the prepared list is as long as it was lent
+prepared-size : (c : tie.After-prepare) →
+    length (c .prepare .last .1 .1 .1 .0) ≡ 4096 + length (c .before .before .before .before .before .before .before .args .names .now)
+prepared-size c =
+    let start = c .before .before .before .before .before .before .before in
+    let names-buffer = c .before .before .names-buffer in
+    let size = names-buffer .ensures in
+    let short = start .pre .1 .0 in
+    kept-size (c .prepare .last .1 .1 .1 .0) (names-buffer .result) (4096 + length (start .args .names .now)) (c .prepare .kept .1 .1 .1 .0) (omega arith)
 
 array-share-prefix-buffer : tie.Need-array-share-prefix-buffer
 array-share-prefix-buffer c =
-    let names-buffer = c .before .before .before .before .before .names-buffer in
-    let pre = c .before .before .before .before .before .before .before .before .before .before .pre in
-    let prepare = c .before .before .before .prepare in
-    let args = c .before .before .before .before .before .before .before .before .before .before .args in
-    let size = names-buffer .ensures in
-    let short = pre .1 .0 in
-    let prepared = kept-size (prepare .last .1 .1 .1 .0) (names-buffer .result) (4096 + length (args .names .now)) (prepare .kept .1 .1 .1 .0) (omega arith) in
-    front-inside (prepare .last .1 .1 .1 .0) (drop (4096 + length (args .names .now)) (names-buffer .result)) _ prepared
+    let prepare = c .before .prepare in
+    let names-buffer = c .before .before .before .names-buffer in
+    let start = c .before .before .before .before .before .before .before .before in
+    front-inside (prepare .last .1 .1 .1 .0) (drop (4096 + length (start .args .names .now)) (names-buffer .result)) _ (prepared-size (c .before))
 
 slice-aggregate-read-program : tie.Need-slice-aggregate-read-program
 slice-aggregate-read-program c =
-    let names-buffer = c .before .before .before .before .before .before .names-buffer in
-    let pre = c .before .before .before .before .before .before .before .before .before .before .before .pre in
-    let prepare = c .before .before .before .before .prepare in
-    let args = c .before .before .before .before .before .before .before .before .before .before .before .args in
-    let size = names-buffer .ensures in
-    let short = pre .1 .0 in
-    let prepared = kept-size (prepare .last .1 .1 .1 .0) (names-buffer .result) (4096 + length (args .names .now)) (prepare .kept .1 .1 .1 .0) (omega arith) in
-    front-counts (prepare .last .1 .1 .1 .0) (drop (4096 + length (args .names .now)) (names-buffer .result)) _ prepared
+    let prepare = c .before .before .prepare in
+    let names-buffer = c .before .before .before .before .names-buffer in
+    let start = c .before .before .before .before .before .before .before .before .before in
+    front-counts (prepare .last .1 .1 .1 .0) (drop (4096 + length (start .args .names .now)) (names-buffer .result)) _
+    (prepared-size (c .before .before))
 
-slice-relend-prefix-read-program : tie.Need-slice-relend-prefix-read-program
-slice-relend-prefix-read-program c = search needs
-
-slice-aggregate-read-program-2 : tie.Need-slice-aggregate-read-program-2
-slice-aggregate-read-program-2 c =
-    let room = c .before .before .room in
-    let is-room = room .ensures in
-    sym (length-take-le _ _ (omega arith))
+-- the names that the reader is lent are those of the source and its list
+named : (c : tie.After-prepare) →
+    let start = c .before .before .before .before .before .before .before in
+    let size = 4096 + length (start .args .names .now) in
+    let lent = take size (c .prepare .last .1 .1 .1 .0 ++ drop size (c .before .before .names-buffer .result)) in
+    preparedNames opening17 lent (items (start .args .source .now) (rowsOf (start .args .tokens .now)))
+    ≡ namesOf language17 (start .args .source .now) (start .args .names .now) (rowsOf (start .args .tokens .now))
+named c =
+    let start = c .before .before .before .before .before .before .before in
+    lent-names (c .prepare .last .1 .1 .1 .0) (drop (4096 + length (start .args .names .now)) (c .before .before .names-buffer .result)) _ _ _
+    (prepared-size c) (c .prepare .ensures)
 
 read-program-requires : tie.Need-read-program-requires
 read-program-requires c κs =
-    let args = c .before .before .before .before .before .before .before .before .before .before .before .before .args in
-    let pre = c .before .before .before .before .before .before .before .before .before .before .before .before .pre in
-    tokens-good (args .source .now) (args .names .now) (args .tokens .now) (pre .0) (pre .1 .1)
+    let start = c .before .before .before .before .before .before .before .before .before .before in
+    tokens-good (start .args .source .now) (start .args .names .now) (start .args .tokens .now) (start .pre .0) (start .pre .1 .1)
 
 enum-known-step : tie.Need-enum-known-step
 enum-known-step c = search needs
 
-slice-relend-prefix-clear : tie.Need-slice-relend-prefix-clear
-slice-relend-prefix-clear c =
-    let room = c .before .before .before .before .before .before .before .before .room in
-    let read-program = c .before .before .before .before .before .read-program in
-    let args = c .before .before .before .before .before .before .before .before .before .before .before .before .before .before .before .before .before .before .args in
-    let is-room = room .ensures in
-    let put = kept-size (read-program .last .1 .1 .1 .0) (args .rows .now) (room .result * 4) (read-program .kept .1 .1 .1 .0) (omega arith) in
-    let inside = front-inside (read-program .last .1 .1 .1 .0) (drop (room .result * 4) (args .rows .now)) _ put in
-    omega arith
-
-slice-aggregate-clear : tie.Need-slice-aggregate-clear
-slice-aggregate-clear c =
-    let room = c .before .before .before .before .before .before .before .before .before .room in
-    let read-program = c .before .before .before .before .before .before .read-program in
-    let args = c .before .before .before .before .before .before .before .before .before .before .before .before .before .before .before .before .before .before .before .args in
-    let is-room = room .ensures in
-    let put = kept-size (read-program .last .1 .1 .1 .0) (args .rows .now) (room .result * 4) (read-program .kept .1 .1 .1 .0) (omega arith) in
-    let inside = front-inside (read-program .last .1 .1 .1 .0) (drop (room .result * 4) (args .rows .now)) _ put in
-    sym (length-take-le _ _ (omega arith))
-
-clear-requires : tie.Need-clear-requires
-clear-requires c κs = search needs
-
 enum-known-step-2 : tie.Need-enum-known-step-2
 enum-known-step-2 c = search needs
 
-slice-relend-prefix-clear-2 : tie.Need-slice-relend-prefix-clear-2
-slice-relend-prefix-clear-2 c =
-    let room = c .before .before .before .before .before .before .before .before .before .room in
-    let read-program = c .before .before .before .before .before .before .read-program in
-    let args = c .before .before .before .before .before .before .before .before .before .before .before .before .before .before .before .before .before .before .before .args in
-    let is-room = room .ensures in
-    let put = kept-size (read-program .last .1 .1 .1 .0) (args .rows .now) (room .result * 4) (read-program .kept .1 .1 .1 .0) (omega arith) in
-    let inside = front-inside (read-program .last .1 .1 .1 .0) (drop (room .result * 4) (args .rows .now)) _ put in
-    omega arith
+room-requires : tie.Need-room-requires
+room-requires c κs = search needs
 
-slice-aggregate-clear-2 : tie.Need-slice-aggregate-clear-2
-slice-aggregate-clear-2 c =
-    let room = c .before .before .before .before .before .before .before .before .before .before .room in
-    let read-program = c .before .before .before .before .before .before .before .read-program in
-    let args = c .before .before .before .before .before .before .before .before .before .before .before .before .before .before .before .before .before .before .before .before .args in
-    let is-room = room .ensures in
-    let put = kept-size (read-program .last .1 .1 .1 .0) (args .rows .now) (room .result * 4) (read-program .kept .1 .1 .1 .0) (omega arith) in
-    let inside = front-inside (read-program .last .1 .1 .1 .0) (drop (room .result * 4) (args .rows .now)) _ put in
-    sym (length-take-le _ _ (omega arith))
-
-clear-requires-2 : tie.Need-clear-requires-2
-clear-requires-2 c κs = search needs
+clear-requires : tie.Need-clear-requires
+clear-requires c κs = search needs
 
 same-length : tie.Need-same-length
 same-length c = search needs
 
 returns : tie.Need-returns
 returns c =
-    let args = c .before .before .before .before .before .before .before .before .before .before .before .before .before .before .before .before .before .before .before .before .before .before .before .args in
-    let names-buffer = c .before .before .before .before .before .before .before .before .before .before .before .before .before .before .before .before .before .before .names-buffer in
-    let pre = c .before .before .before .before .before .before .before .before .before .before .before .before .before .before .before .before .before .before .before .before .before .before .before .pre in
-    let prepare = c .before .before .before .before .before .before .before .before .before .before .before .before .before .before .before .before .prepare in
-    let room = c .before .before .before .before .before .before .before .before .before .before .before .before .before .room in
-    let read-program = c .before .before .before .before .before .before .before .before .before .before .read-program in
-    let step2 = c .before .before .before .before .before .before .step2 in
+    let clear = c .before .before .clear in
     let if1 = c .before .before .before .before .if1 in
-    let clear2 = c .before .before .clear2 in
-    let size = names-buffer .ensures in
-    let short = pre .1 .0 in
-    let prepared = kept-size (prepare .last .1 .1 .1 .0) (names-buffer .result) (4096 + length (args .names .now)) (prepare .kept .1 .1 .1 .0) (omega arith) in
-    let named = lent-names (prepare .last .1 .1 .1 .0) (drop (4096 + length (args .names .now)) (names-buffer .result)) _ _ _ prepared (prepare .ensures) in
-    let law = full-rows (args .source .now) (args .names .now) (args .tokens .now) (pre .0) (pre .1 .1) (args .rows .now) _ _ named
-    (room .result) (room .ensures) _ (read-program .ensures) _ _ (step2 .given .1) (if1 .taken) in
-    (law .0, rw (clear2 .ensures) (law .1))
+    let room = c .before .before .before .before .before .room in
+    let step2 = c .before .before .before .before .before .before .before .before .step2 in
+    let read-program = c .before .before .before .before .before .before .before .before .before .before .before .before .read-program in
+    let names = named (c .before .before .before .before .before .before .before .before .before .before .before .before .before .before .before .before) in
+    let start = c .before .before .before .before .before .before .before .before .before .before .before .before .before .before .before .before .before .before .before .before .before .before .before in
+    let args = start .args in
+    let pre = start .pre in
+    let over = if1 .taken in
+    let same = read-program .kept .1 .1 .1 .0 in
+    let is-room = room .ensures in
+    let law = full-rows (args .source .now) (args .names .now) (args .tokens .now) (pre .0) (pre .1 .1) (args .rows .now) _ _ names _ (read-program .ensures .0) _ _ (step2 .given .1) (omega arith) in
+    (law .0, clear .ensures ∙ law .1)
 
 same-length-2 : tie.Need-same-length-2
 same-length-2 c = search needs
 
 returns-2 : tie.Need-returns-2
 returns-2 c =
-    let args = c .before .before .before .before .before .before .before .before .before .before .before .before .before .before .before .before .before .before .before .before .before .before .args in
-    let names-buffer = c .before .before .before .before .before .before .before .before .before .before .before .before .before .before .before .before .before .names-buffer in
-    let pre = c .before .before .before .before .before .before .before .before .before .before .before .before .before .before .before .before .before .before .before .before .before .before .pre in
-    let prepare = c .before .before .before .before .before .before .before .before .before .before .before .before .before .before .before .prepare in
-    let room = c .before .before .before .before .before .before .before .before .before .before .before .before .room in
-    let read-program = c .before .before .before .before .before .before .before .before .before .read-program in
-    let step = c .before .before .before .before .before .step in
-    let clear = c .before .before .clear in
-    let size = names-buffer .ensures in
-    let short = pre .1 .0 in
-    let prepared = kept-size (prepare .last .1 .1 .1 .0) (names-buffer .result) (4096 + length (args .names .now)) (prepare .kept .1 .1 .1 .0) (omega arith) in
-    let named = lent-names (prepare .last .1 .1 .1 .0) (drop (4096 + length (args .names .now)) (names-buffer .result)) _ _ _ prepared (prepare .ensures) in
-    let law = refused-rows (args .source .now) (args .names .now) (args .tokens .now) (pre .0) (pre .1 .1) (args .rows .now) _ _ named
-    (room .result) (room .ensures) _ (read-program .ensures) _ _ (step .given .1) in
-    (law .0, rw (clear .ensures) (law .1))
+    let step = c .before .step in
+    let read-program = c .before .before .before .before .before .read-program in
+    let names = named (c .before .before .before .before .before .before .before .before .before) in
+    let start = c .before .before .before .before .before .before .before .before .before .before .before .before .before .before .before .before in
+    let args = start .args in
+    let pre = start .pre in
+    refused-rows (args .source .now) (args .names .now) (args .tokens .now) (pre .0) (pre .1 .1) (args .rows .now) _ _ names _ (read-program .ensures .0)
+    _ _ (step .given .1) (read-program .ensures .1 _ _ (step .given .1))
 
 same-length-3 : tie.Need-same-length-3
 same-length-3 c = search needs
 
 returns-3 : tie.Need-returns-3
 returns-3 c =
-    let args = c .before .before .before .before .before .before .before .before .before .before .before .before .before .before .before .before .before .before .before .args in
-    let names-buffer = c .before .before .before .before .before .before .before .before .before .before .before .before .before .before .names-buffer in
-    let pre = c .before .before .before .before .before .before .before .before .before .before .before .before .before .before .before .before .before .before .before .pre in
-    let prepare = c .before .before .before .before .before .before .before .before .before .before .before .before .prepare in
-    let room = c .before .before .before .before .before .before .before .before .before .room in
-    let read-program = c .before .before .before .before .before .before .read-program in
-    let step2 = c .before .before .step2 in
-    let size = names-buffer .ensures in
-    let short = pre .1 .0 in
-    let prepared = kept-size (prepare .last .1 .1 .1 .0) (names-buffer .result) (4096 + length (args .names .now)) (prepare .kept .1 .1 .1 .0) (omega arith) in
-    let named = lent-names (prepare .last .1 .1 .1 .0) (drop (4096 + length (args .names .now)) (names-buffer .result)) _ _ _ prepared (prepare .ensures) in
-    accepted-rows (args .source .now) (args .names .now) (args .tokens .now) (pre .0) (pre .1 .1) (args .rows .now) _ _ named
-    (room .result) (room .ensures) _ (read-program .ensures) _ _ (step2 .given .1) (c .if1 .left)
+    let room = c .before .room in
+    let step2 = c .before .before .before .before .step2 in
+    let read-program = c .before .before .before .before .before .before .before .before .read-program in
+    let names = named (c .before .before .before .before .before .before .before .before .before .before .before .before) in
+    let start = c .before .before .before .before .before .before .before .before .before .before .before .before .before .before .before .before .before .before .before in
+    let args = start .args in
+    let pre = start .pre in
+    let fits = c .if1 .left in
+    let same = read-program .kept .1 .1 .1 .0 in
+    let is-room = room .ensures in
+    accepted-rows (args .source .now) (args .names .now) (args .tokens .now) (pre .0) (pre .1 .1) (args .rows .now) _ _ names _ (read-program .ensures .0)
+    _ _ (step2 .given .1) (omega arith)
 
 pub read-tokens-spec : {M : Type 1} → statement M
 read-tokens-spec =
@@ -207,21 +155,13 @@ read-tokens-spec =
     array-borrow-prefix-buffer
     slice-aggregate-prepare
     prepare-requires
-    room-requires
-    mul-end
     array-share-prefix-buffer
     slice-aggregate-read-program
-    slice-relend-prefix-read-program
-    slice-aggregate-read-program-2
     read-program-requires
     enum-known-step
-    slice-relend-prefix-clear
-    slice-aggregate-clear
-    clear-requires
     enum-known-step-2
-    slice-relend-prefix-clear-2
-    slice-aggregate-clear-2
-    clear-requires-2
+    room-requires
+    clear-requires
     same-length
     returns
     same-length-2
