@@ -54,7 +54,8 @@ unfoldable pub rowLines : List ℕ → ℕ → List ℕ
 rowLines table zero = []
 rowLines table (suc n) = rowLines table n ++ rowLine table n
 
--- "`accepted T R` and then the R rows, or one line `refused N P`"; a table with fewer whole rows has no more to print
+-- a line `accepted T R` and then a line for each of the R rows, or one line `refused N P`; a table with fewer whole rows has no more
+-- to print
 unfoldable pub answerText : Answer → List ℕ → List ℕ
 answerText (Accepted tokens rows) table = line (bytes "accepted ") tokens rows ++ rowLines table (min rows (treeRoom table))
 answerText (Refused number place) table = line (bytes "refused ") number place
@@ -63,7 +64,12 @@ answerText (Refused number place) table = line (bytes "refused ") number place
 unfoldable pub written : List ℕ → ℕ → Written
 written text room = pick (leb (length text) room) (Whole (length text)) Cut
 
--- an output that a text was written into: as much of the text as it has room for, and what it held behind that
+-- how many bytes of an output with so much room hold a text, by how much of it is written
+unfoldable pub bytesWritten : Written → ℕ → ℕ
+bytesWritten (Whole size) room = size
+bytesWritten Cut room = room
+
+-- an output that a text was written into: as much of the text as it has room for, and what it held after that
 unfoldable pub overwritten : List ℕ → List ℕ → List ℕ
 overwritten text output = take (length output) text ++ drop (length text) output
 
@@ -72,7 +78,7 @@ pub record Holds (text before : List ℕ) (so-far : Written) (output : List ℕ)
   pub says : so-far ≡ written text (length before)
   pub leaves : output ≡ overwritten text before
 
--- some bytes are written behind whatever the output holds
+-- some bytes are written after whatever the output holds
 abbrev pub Appends : List ℕ → Written → List ℕ → Written → List ℕ → Type 0
 Appends more from output to after =
     (text before : List ℕ) → Holds text before from output → Holds (text ++ more) before to after

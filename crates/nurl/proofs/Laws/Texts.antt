@@ -1,5 +1,5 @@
 -- Texts written into a lent output: one byte more, two texts one after the other, and the digits of a number. Assumes nothing.
-use Prim.Native.Nat.{ℕ, zero, suc, _+_, _/_, _%_, _<_, _≤_}
+use Prim.Native.Nat.{ℕ, zero, suc, _+_, _*_, _/_, _%_, _<_, _≤_}
 use mathlib.Core.Path.{_≡_, refl, sym, _∙_, ap}
 use mathlib.Core.Bool.{Bool, true, false}
 use mathlib.Core.List.{List, [], _∷_, _++_, append-assoc, append-nil}
@@ -8,7 +8,7 @@ use native.Mathlib.Numerals.{add-one}
 use lib.Dec.{leb, ltb}
 use lib.ListN.{length, take, drop, set, length-append, length-take, length-drop, drop-of-length-le}
 use lib.Seq.{take-all, take-append-le, set-at, drop-cons}
-use borrow.Author.Tests.{leb-true, leb-false, le-leb, lt-leb, lt-ltb, le-ltb}
+use borrow.Author.Tests.{leb-true, leb-false, ltb-true, ltb-false, le-leb, lt-leb, lt-ltb, le-ltb}
 use Rattle.lexer.specs.Tests.{pick}
 use Rattle.nurl.specs.Texts.{digit, digitsWithin, decimal, written, overwritten, Holds, Appends}
 use Rattle.nurl.specs.declared.Written.{Written}
@@ -132,3 +132,19 @@ pub decimal-more : (n : ℕ) → 10 ≤ n → decimal n ≡ decimal (n / 10) ++ 
 unfolding decimal digitsWithin
 decimal-more zero h = absurd (omega arith)
 decimal-more (suc n) h = rw (le-ltb (suc n) 10 h, digits-more n (suc n / 10) (suc n / 10) (omega arith) (omega arith))
+
+-- how many digits a number has: one more for each ten times as many
+pub digits-of-ten : (n : ℕ) → n < 10 → length (decimal n) ≤ 1
+digits-of-ten n small = let l = ap length (decimal-last n small) in omega arith
+
+pub digits-of-more : (most digits : ℕ) → ((n : ℕ) → n < most → length (decimal n) ≤ digits) → 1 ≤ digits
+    → (n : ℕ) → n < 10 * most → length (decimal n) ≤ digits + 1
+digits-of-more most digits fewer some n small = cases (ltb n 10) refl
+  where
+    cases : (t : Bool) → ltb n 10 ≡ t → length (decimal n) ≤ digits + 1
+    cases true q = let l = digits-of-ten n (ltb-true _ _ q) in omega arith
+    cases false q =
+        let ten = ltb-false n 10 q in
+        let front = fewer (n / 10) (omega arith) in
+        let all = ap length (decimal-more n ten) ∙ length-append (decimal (n / 10)) (digit n ∷ []) in
+        omega arith

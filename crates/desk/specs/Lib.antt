@@ -1,2 +1,0 @@
--- What the desk program prints.
-pub mod Desk
