@@ -1,0 +1,3 @@
+-- Laws of what is read, and of how long a reply is.
+pub mod Calls
+pub mod Sizes
