@@ -37,3 +37,7 @@ unfoldable pub deskText : List ℕ → List ℕ
 deskText script =
     let result = deskResult script deskTokens deskTree in
     answerText (result .answer) (result .rows)
+
+-- the room for it: 20 bytes for each row, and 64 for the first line (`reply-fits` in proofs/)
+abbrev pub textRoom : ℕ
+textRoom = 80064

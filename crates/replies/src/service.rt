@@ -5,7 +5,7 @@ use crate::script;
 ghost use mathlib.Core.Path.{_≡_};
 ghost use Prim.Native.Nat.{_+_};
 ghost use lib.ListN.{length};
-ghost use Rattle.replies.specs.Desk.{scriptLimit};
+ghost use Rattle.replies.specs.Desk.{scriptLimit, textRoom};
 
 // One byte more than a script may have, so that a longer one shows.
 fn script_buffer() -> [u8; 65536]
@@ -15,7 +15,9 @@ fn script_buffer() -> [u8; 65536]
 }
 
 // An output for a reply.
-fn text_buffer() -> [u8; reply::TEXT_ROOM] {
+fn text_buffer() -> [u8; reply::TEXT_ROOM]
+    ensures { λ r. ⌜ length r ≡ textRoom ⌝ }
+{
     [0; reply::TEXT_ROOM]
 }
 

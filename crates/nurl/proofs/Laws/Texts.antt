@@ -43,7 +43,7 @@ unfolding overwritten
 overwritten-over text before over = rw (drop-of-length-le before over)
 
 -- the output keeps its length
-overwritten-length : (text before : List ℕ) → length (overwritten text before) ≡ length before
+pub overwritten-length : (text before : List ℕ) → length (overwritten text before) ≡ length before
 unfolding overwritten
 overwritten-length text before = simp (length-append, length-take, length-drop) (omega arith)
 

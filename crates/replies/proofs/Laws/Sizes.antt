@@ -28,13 +28,9 @@ use Rattle.parser.proofs.Laws.Trees.{length-treeRows}
 use Rattle.nurl.specs.Texts.{decimal, number, line, space, newline, rowLine, rowLines, answerText, written, bytesWritten, overwritten}
 use Rattle.nurl.specs.declared.Written.{Written}
 use Rattle.nurl.specs.declared.Written.the-variants.{Whole, Cut}
-use Rattle.nurl.proofs.Laws.Texts.{digits-of-ten, digits-of-more}
+use Rattle.nurl.proofs.Laws.Texts.{overwritten-length, digits-of-ten, digits-of-more}
 use Rattle.nurl.proofs.Laws.Numbers.{refused-small}
-use Rattle.replies.specs.Desk.{scriptLimit, deskTokens, deskTree, deskResult, deskText}
-
--- the room for a reply: 20 bytes for each row and 64 for the first line
-abbrev pub textRoom : ℕ
-textRoom = 80064
+use Rattle.replies.specs.Desk.{scriptLimit, deskTokens, deskTree, deskResult, deskText, textRoom}
 
 -- digits
 digits-of-two : (n : ℕ) → n < 100 → length (decimal n) ≤ 2
@@ -221,6 +217,14 @@ result-fits script tokens rows a b c = cases (ltb scriptLimit (length script))
 pub reply-fits : (script : List ℕ) → length (deskText script) ≤ textRoom
 unfolding deskText
 reply-fits script = result-fits script deskTokens deskTree desk-token-room desk-tree-room desk-tree-small
+
+-- so many bytes of an output of that room hold it
+pub size-inside : (script before after : List ℕ) (size : ℕ) → size ≡ length (deskText script) → after ≡ overwritten (deskText script) before
+    → length before ≡ textRoom → size ≤ length after
+size-inside script before after size h there room =
+    let fits = reply-fits script in
+    let same = ap length there ∙ overwritten-length (deskText script) before in
+    omega arith
 
 -- a text that fits is written whole
 pub whole-text : (text : List ℕ) (room : ℕ) → length text ≤ room → bytesWritten (written text room) room ≡ length text

@@ -1,8 +1,8 @@
 -- `replies::reply::write_reply` meets its contract: the text of the answer, which fits. Assumes nothing.
 use mathlib.Core.Path.{_≡_, sym, _∙_, ap}
 use lib.ListN.{length}
-use Rattle.replies.specs.Desk.{deskText}
-use Rattle.replies.proofs.Laws.Sizes.{textRoom, reply-text, reply-fits, whole-text}
+use Rattle.replies.specs.Desk.{deskText, textRoom}
+use Rattle.replies.proofs.Laws.Sizes.{reply-text, reply-fits, whole-text}
 use borrow.Author.Needs.{needs}
 use Rattle.replies.proofs.reply.write_reply.Statement.{statement}
 use Rattle.replies.proofs.reply.write_reply.Tie as tie
