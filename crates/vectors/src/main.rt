@@ -1,4 +1,4 @@
-// Runs the stored cases of standard input through `nurl::read` and prints each answer with both tables whole.
+// Runs the stored cases of standard input through `nurl::read` and prints each answer with both whole tables.
 mod input;
 mod output;
 mod table;
@@ -118,10 +118,10 @@ fn source_buffer() -> [u8; 1048577]
     [0; 1048577]
 }
 
-fn tokens_buffer() -> [u32; 9000]
-    ensures { λ r. ⌜ 9000 ≡ length r ⌝ }
+fn tokens_buffer() -> [u32; 1200000]
+    ensures { λ r. ⌜ 1200000 ≡ length r ⌝ }
 {
-    [0; 9000]
+    [0; 1200000]
 }
 
 fn tree_buffer() -> [u32; 12000]

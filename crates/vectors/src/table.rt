@@ -3,6 +3,12 @@ use crate::output;
 ghost use Prim.Native.Nat.{_≤_, _<_};
 ghost use lib.ListN.{length};
 
+// The most numbers of a table that are printed row by row.
+const MOST_PRINTED: usize = 12000;
+
+// The largest prime below 2 to the 32nd.
+const DIGEST_PRIME: u64 = 4294967291;
+
 // The numbers in a row, and the first number before a case.
 pub struct Layout {
     pub width: usize,
@@ -15,7 +21,7 @@ enum Filling {
     Zero,
 }
 
-// Number `i` of a table before a case. A table has at most 12,000 numbers, so nothing wraps.
+// Number `i` of a table before a case. A table has at most 1,200,000 numbers, so nothing wraps.
 fn pattern(base: u32, i: usize) -> u32 {
     std::num::wrapping_add_u32(base, (i % 4294967296) as u32)
 }
@@ -68,7 +74,9 @@ fn before_filled(rows: &[u32], width: usize, filling: Filling) -> usize
 }
 
 // A number of a table, as wide as the output takes it.
-fn wide(n: u32) -> u64 {
+fn wide(n: u32) -> u64
+    ensures { λ r. ⌜ r < 4294967296 ⌝ }
+{
     n as u64
 }
 
@@ -136,11 +144,33 @@ fn put_whole(out: &mut [u8], at: usize, rows: &[u32], layout: Layout) -> usize
     put_rows(out, at, rows, width)
 }
 
-// A table: its whole rows, and the numbers after them on a line.
-pub(crate) fn put_table(out: &mut [u8], at: usize, table: &[u32], layout: Layout) -> usize
+// The whole rows of a table, and the numbers after them on a line.
+fn put_rows_and_rest(out: &mut [u8], at: usize, table: &[u32], layout: Layout) -> usize
     requires { ⌜ 0 < layout .width ⌝ }
 {
     let whole = table.len() - table.len() % layout.width;
     let to = put_whole(out, at, &table[..whole], layout);
     put_line(out, to, &table[whole..])
+}
+
+// A number for a whole table, in which every number of it counts.
+fn digest(table: &[u32]) -> u64 {
+    let mut sum: u64 = 0;
+    let mut i = 0;
+    while i < table.len() {
+        sum = (sum * 31 + wide(table[i])) % DIGEST_PRIME;
+        i += 1;
+    }
+    sum
+}
+
+// A table: its rows, or its digest where it has too many to print.
+pub(crate) fn put_table(out: &mut [u8], at: usize, table: &[u32], layout: Layout) -> usize
+    requires { ⌜ 0 < layout .width ⌝ }
+{
+    if MOST_PRINTED < table.len() {
+        let to = output::put_text(out, at, b"digest ");
+        return output::put_number(out, to, digest(table), b'\n');
+    }
+    put_rows_and_rest(out, at, table, layout)
 }

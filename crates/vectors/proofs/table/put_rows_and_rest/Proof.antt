@@ -1,11 +1,11 @@
--- `vectors::table::put_table` is safe and ends. Assumes nothing.
+-- `vectors::table::put_rows_and_rest` is safe and ends. Assumes nothing.
 use mathlib.Core.Path.{sym}
 use lib.Seq.{length-take-le}
 use native.Mathlib.Omega.{arith}
 use native.Mathlib.Nat.{mod-le}
 use borrow.Author.Needs.{needs}
-use Rattle.vectors.proofs.table.put_table.Statement.{statement}
-use Rattle.vectors.proofs.table.put_table.Tie as tie
+use Rattle.vectors.proofs.table.put_rows_and_rest.Statement.{statement}
+use Rattle.vectors.proofs.table.put_rows_and_rest.Tie as tie
 
 rem-whole : tie.Need-rem-whole
 rem-whole c = search needs
@@ -40,8 +40,8 @@ same-length c = search needs
 returns : tie.Need-returns
 returns c = search needs
 
-pub put-table-spec : {M : Type 1} → statement M
-put-table-spec =
+pub put-rows-and-rest-spec : {M : Type 1} → statement M
+put-rows-and-rest-spec =
     tie.close
     (tie.spec
     rem-whole
