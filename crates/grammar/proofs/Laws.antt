@@ -26,4 +26,5 @@ pub mod Sources
 pub mod Answers
 pub mod Nurl17
 pub mod Examples
+pub mod Lists17
 pub mod Readers
