@@ -17,6 +17,7 @@ pub mod Readings
 pub mod Views
 pub mod Patterns
 pub mod Table17
+pub mod Needed17
 pub mod Groups
 pub mod Groups17
 pub mod Alternatives17
@@ -25,4 +26,5 @@ pub mod Sources
 pub mod Answers
 pub mod Nurl17
 pub mod Examples
+pub mod Lists17
 pub mod Readers

@@ -55,8 +55,8 @@ nth x (suc (suc n)) (p ∷ ps) =
 abbrev pub kindOf : ℕ → ℕ
 kindOf c = pick (eqb c typeName) ident c
 
--- The alternative of x in grammar 1.7 that a token of a kind begins; what is no kind begins none. Every question is answered no and an
--- IDENT taken as no type name: for types, expressions, statements and declarations, of which it is asked, neither matters.
+-- The alternative of x in grammar 1.7 that a token of a kind begins; what is not a kind begins none. Every question is answered no and
+-- an IDENT taken not to be a type name: for types, expressions, statements and declarations, of which it is asked, neither matters.
 unfoldable pub kindAlternative : ℕ → ℕ → ℕ
 kindAlternative x kind =
     let number = alternative productions17 kind false x in

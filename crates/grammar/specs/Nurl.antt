@@ -79,8 +79,8 @@ questions17 =
     asking opensNames ((single leftBracket ∷ someOf (ident ∷ boolean ∷ []) ∷ single rightBracket ∷ []) ∷ []) ∷
     -- rule 2: "at a call .. keywords too"
     asking opensWords ((single leftBracket ∷ someOf (ident ∷ boolean ∷ keyword ∷ []) ∷ single rightBracket ∷ []) ∷ []) ∷
-    -- After `:`, an IDENT before `{` or `[` is the name of a struct; what begins otherwise, `|` apart, is a constant. This is no
-    -- rule of 01's, and it loses no derivation (`struct-asked` and `constant-asked` in proofs/): a constant whose type is an IDENT
+    -- After `:`, an IDENT before `{` or `[` is the name of a struct; what begins otherwise, `|` apart, is a constant. This is not
+    -- a rule of 01's, and it loses no derivation (`struct-asked` and `constant-asked` in proofs/): a constant whose type is an IDENT
     -- goes on with another IDENT.
     asking opensStruct ((single ident ∷ oneOf (leftBrace ∷ leftBracket ∷ []) ∷ []) ∷ []) ∷
     -- rule 6: "two IDENTs make a foreach"

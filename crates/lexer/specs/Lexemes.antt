@@ -69,7 +69,7 @@ text s =
     let n = run isInString (drop 1 s) in
     pick (begins (code "`") s) (pick (ltb (1 + n) (length s)) (Token string (2 + n)) OpenString) BadByte
 
--- a mark of kind k and length n; 0 is no kind
+-- a mark of kind k and length n; 0 is not a kind
 unfoldable pub markOf : ℕ → ℕ → Lexeme → Lexeme
 markOf zero n other = other
 markOf (suc k) n other = Token (suc k) n

@@ -1,4 +1,4 @@
--- Fixed spellings with their kinds: the words that are no IDENT, and the marks.
+-- Fixed spellings with their kinds: the words that are not IDENTs, and the marks.
 use Prim.Native.Nat.{ℕ, max}
 use Prim.Native.String.{String}
 use mathlib.Core.Bool.{Bool, true, false}

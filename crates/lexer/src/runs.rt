@@ -118,7 +118,7 @@ fn stop_after(source: &[u8], at: usize, stop: u8) -> usize
     i
 }
 
-// Whether none of the sixteen bytes from `at` on is `stop`, so that a run that is at `at` goes on behind them. Every byte is looked at,
+// Whether none of the sixteen bytes from `at` on is `stop`, so that a run that is at `at` goes on after them. Every byte is looked at,
 // so that the compiler can compare them at once.
 fn block_passes(source: &[u8], at: usize, stop: u8) -> bool
     requires { ⌜ at + 16 ≤ length (now source) ⌝ }

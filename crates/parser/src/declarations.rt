@@ -327,7 +327,7 @@ fn constant(tokens: &[u32], rows: &mut [u32], from: Step, left: usize) -> Step
     steps::close_row(rows, from, valued, row_kinds::CONSTANT)
 }
 
-// As many variants as there are; by rule 4 each begins with a name that is no type name.
+// As many variants as there are; by rule 4 each begins with a name that is not a type name.
 fn variants(
     source: &[u8],
     names: &[u8],

@@ -64,7 +64,7 @@ pub(crate) fn expression(
     }
 }
 
-// How many operands an operator has, by its alternative; 0 where that is no operator's.
+// How many operands an operator has, by its alternative; 0 where that is not an operator's.
 fn operand_count(form: u8) -> usize
     ensures { λ r. ⌜ r ≡ operandCount form ⌝ }
 {
@@ -79,7 +79,7 @@ fn operand_count(form: u8) -> usize
     }
 }
 
-// The row of an operator, by its alternative; 0 where that is no operator's.
+// The row of an operator, by its alternative; 0 where that is not an operator's.
 fn operation_row(form: u8) -> u32
     ensures { λ r. ⌜ r ≡ operationRow form ⌝ }
 {

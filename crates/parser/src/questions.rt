@@ -99,7 +99,7 @@ pub(crate) fn zero_or_one(source: &[u8], tokens: &[u32], step: Step) -> bool
     }
 }
 
-// Rules 3 and 4: whether an IDENT comes next that is no type name.
+// Rules 3 and 4: whether an IDENT comes next that is not a type name.
 pub(crate) fn plain_name(
     source: &[u8],
     names: &[u8],

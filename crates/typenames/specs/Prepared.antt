@@ -1,4 +1,4 @@
--- A prepared list: the slots of a filter, and behind them the list of extra type names. A word whose slot is 0 is no type name; any
+-- A prepared list: the slots of a filter, and after them the list of extra type names. A word whose slot is 0 is not a type name; any
 -- other is looked for. This is a means of the code: what is promised to callers of the whole library does not depend on it.
 use Prim.Native.Char.{code}
 use Prim.Native.Nat.{ℕ, _+_, _*_, _%_}

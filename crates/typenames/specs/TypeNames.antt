@@ -53,7 +53,7 @@ structName opening a b c =
 unfoldable pub deeper : ℕ → ℕ → ℕ
 deeper depth kind = pick (eqb kind leftBrace) (suc depth) (pick (eqb kind rightBrace) (depth - 1) depth)
 
--- what three tokens declare, the first of them at a depth: "at brace depth zero"; the tokens before the IDENT are no braces
+-- what three tokens declare, the first of them at a depth: "at brace depth zero"; the tokens before the IDENT are not braces
 unfoldable pub namesAt : List ℕ → ℕ → Item → Item → Item → List (List ℕ)
 namesAt opening zero a b c = structName opening a b c ++ enumName a b c
 namesAt opening (suc depth) a b c = []

@@ -131,7 +131,7 @@ pub choice-plain : (g : List Production) (v : View) (e : Names) (x i : ℕ) (b :
 choice-plain g v e x i b h =
     choice-heard v e i (λ (r : ℕ). false) b (λ (r : ℕ) (s : false ≡ true). absurd (false≢true s)) g x h
 
--- what is no kind begins nothing
+-- what is not a kind begins nothing
 pub kind-past : (x kind : ℕ) → lastKind < kind → kindAlternative x kind ≡ 0
 unfolding kindAlternative
 kind-past x kind h = rw (lt-leb kind lastKind h)

@@ -1,4 +1,4 @@
--- The readers that document 01 will not accept, and that each falls to the demand that is named for it. Assumes nothing.
+-- The readers that document 01 will not accept, and that each violates the demand that is named for it. Assumes nothing.
 use Prim.Native.Nat.{ℕ, suc, _*_}
 use mathlib.Core.Path.{_≡_, refl, sym, _∙_, ap}
 use mathlib.Core.List.{List, [], _∷_, _++_}
@@ -58,25 +58,25 @@ floor-tokens : scan edition17 floor ≡ clean floorTokens
 unfolding scans floor
 floor-tokens = refl
 
--- one that refuses all falls to `accepts`
+-- one that refuses all violates `accepts`
 abbrev refusesAll : Reader
 refusesAll source names tokens rows =
     record { answer = Refused 6 0; tokens = filled (tokensOf (scan edition17 source)) tokens; rows = cleared rows }
 
-pub refuses-all-falls : MeetsDemands refusesAll → ⊥
-refuses-all-falls meets =
+pub refuses-all-violates : MeetsDemands refusesAll → ⊥
+refuses-all-violates meets =
     let due = meets [] [] lentTokens lentRows .demand3 .accepts (empty .token-list) (empty .row-list) (empty .readable) (empty .room) (empty .derived) in
     let same = ap (λ (r : Result). r .answer) due in
     let z : _≡_ {A = ℕ} 0 1 = cc in
     absurd (omega arith)
 
--- one that answers M1 for every source falls to `accepted`, by its token count
+-- one that answers M1 for every source violates `accepted`, by its token count
 abbrev answersM1 : Reader
 answersM1 source names tokens rows =
     record { answer = Accepted 0 1; tokens = tokens; rows = placed (node programRow 0 0 1 ∷ []) rows }
 
-pub answers-M1-falls : MeetsDemands answersM1 → ⊥
-answers-M1-falls meets =
+pub answers-M1-violates : MeetsDemands answersM1 → ⊥
+answers-M1-violates meets =
     let said = meets floor [] lentTokens lentRows .demand2 .accepted 0 1 refl in
     let count = said .token-count in
     let found = said .readable .scans in
@@ -85,7 +85,7 @@ answers-M1-falls meets =
     let four : _≡_ {A = ℕ} 0 4 = rw list at count in
     absurd (omega arith)
 
--- one that never writes falls to `accepted`, by the token table
+-- one that never writes violates `accepted`, by the token table
 abbrev neverWrites : Reader
 neverWrites source names tokens rows = record { answer = answer17 source names tokens rows .answer; tokens = tokens; rows = rows }
 
@@ -97,15 +97,15 @@ floor-written ts list table =
     let kept = ap (λ (numbers : List ℕ). getD numbers 0 0) table in
     absurd (omega arith)
 
-pub never-writes-falls : MeetsDemands neverWrites → ⊥
-never-writes-falls meets =
+pub never-writes-violates : MeetsDemands neverWrites → ⊥
+never-writes-violates meets =
     let said = meets floor [] lentTokens lentRows .demand2 .accepted 4 4 floor-accepted in
     let found = said .readable .scans in
     let lexed = floor-tokens in
     let list : said .token-list ≡ floorTokens = cc in
     floor-written (said .token-list) list (said .token-table)
 
--- one that reads the first declaration and invents the others, here by leaving them out, falls to `accepted`, by its rows
+-- one that reads the first declaration and invents the others, here by leaving them out, violates `accepted`, by its rows
 abbrev readsFirst : Reader
 readsFirst source names tokens rows =
     let r = answer17 source names tokens rows in
@@ -119,8 +119,8 @@ two-kept : getD (readsFirst two [] lentTokens lentRows .rows) 8 0 ≡ 7
 unfolding answersTo two
 two-kept = refl
 
-pub reads-first-falls : MeetsDemands readsFirst → ⊥
-reads-first-falls meets =
+pub reads-first-violates : MeetsDemands readsFirst → ⊥
+reads-first-violates meets =
     let said = meets two [] lentTokens lentRows .demand2 .accepted 10 5 two-accepted in
     let due = answer17-meets two [] lentTokens lentRows .demand3 .only 10 5 two-accepted (said .token-list) (said .readable) 200 (said .row-list) (said .derived) in
     let same = ap (λ (r : Result). getD (r .rows) 8 0) due ∙ sym (ap (λ (numbers : List ℕ). getD numbers 8 0) (said .row-table)) in
@@ -128,7 +128,7 @@ reads-first-falls meets =
     let kept = two-kept in
     absurd (omega arith)
 
--- one that reports invented row counts falls to `accepted` for tokens and to `only` for the tree
+-- one that reports invented row counts violates `accepted` for tokens and `only` for the tree
 abbrev counted : (ℕ → ℕ) → (ℕ → ℕ) → Answer → Answer
 counted f g (Accepted tokens rows) = Accepted (f tokens) (g rows)
 counted f g (Refused number place) = Refused number place
@@ -138,8 +138,8 @@ inventsCounts f g source names tokens rows =
     let r = answer17 source names tokens rows in
     record { answer = counted f g (r .answer); tokens = r .tokens; rows = r .rows }
 
-pub invents-tokens-falls : MeetsDemands (inventsCounts suc (λ n. n)) → ⊥
-invents-tokens-falls meets =
+pub invents-tokens-violates : MeetsDemands (inventsCounts suc (λ n. n)) → ⊥
+invents-tokens-violates meets =
     let said = meets [] [] lentTokens lentRows .demand2 .accepted 1 1 (rw empty-accepted refl) in
     let count = said .token-count in
     let found = said .readable .scans in
@@ -148,8 +148,8 @@ invents-tokens-falls meets =
     let none : _≡_ {A = ℕ} 1 0 = rw list at count in
     absurd (omega arith)
 
-pub invents-rows-falls : MeetsDemands (inventsCounts (λ n. n) suc) → ⊥
-invents-rows-falls meets =
+pub invents-rows-violates : MeetsDemands (inventsCounts (λ n. n) suc) → ⊥
+invents-rows-violates meets =
     let due = meets [] [] lentTokens lentRows .demand3 .only 0 2 (rw empty-accepted refl) (empty .token-list) (empty .readable) 200 (empty .row-list) (empty .derived) in
     let answers : counted (λ n. n) suc (answer17 [] [] lentTokens lentRows .answer)
     ≡ Accepted (length (empty .token-list)) (length (empty .row-list)) = ap (λ (r : Result). r .answer) due in

@@ -153,7 +153,7 @@ module _ (source tokens : List ℕ) (good : Tokens tokens) (e : Names) where
       let a₃ = took-name source tokens good e (went productions17 v tokens e fixed a₁ d₂) to₃ in
       went productions17 v tokens e fixed a₃ d₄
 
-  -- rule 4: a name that is no type name is that of a variant; it is a token of the table
+  -- rule 4: a name that is not a type name is that of a variant; it is a token of the table
   pub plain-kind : (s : Step) → askedAt plainName source tokens e s ≡ true → 0 < nextKind tokens s
   unfolding nextKind askedAt
   plain-kind (Read j k) is =

@@ -51,7 +51,7 @@ operator-of a some = binary-or (eqb a 3) refl
     binary-or true h = rw (eqb-true a 3 h) binary
     binary-or false h = not-or h (eqb a 4) refl
 
--- what has no operands is no operator
+-- what has no operands is not an operator
 no-operator : (a n : ℕ) → operandCount a ≡ 0 → 0 < operandCount n → a ≡ n → ⊥
 no-operator a n none some is = let same = rw is at none in absurd (omega (arith, same, some))
 

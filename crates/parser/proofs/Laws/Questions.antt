@@ -1,4 +1,4 @@
--- What the questions of grammar 1.7, and the one for an IDENT that is no type name, ask of the tokens in a table. Assumes nothing.
+-- What the questions of grammar 1.7, and the one for an IDENT that is not a type name, ask of the tokens in a table. Assumes nothing.
 use Prim.Native.Nat.{ℕ, zero, suc, _+_}
 use mathlib.Core.Path.{_≡_, refl, _∙_, sym}
 use mathlib.Core.Bool.{Bool, true, false, not}
@@ -190,7 +190,7 @@ module _ (tokens : List ℕ) (step : Step) (i row : ℕ) (s : step ≡ Read i ro
         let kind = among-single rightBracket (kindAt tokens end) in
         rw (list-asked source e, eq-eqb _ _ bracket, run, some-more (i + 1) n, ← words source, last, kind)
 
--- rules 3 and 4: the class of the next token tells whether it is an IDENT that is no type name
+-- rules 3 and 4: the class of the next token tells whether it is an IDENT that is not a type name
 pub plain-class : (source tokens : List ℕ) (e : Names) (b : Bool) (s : Step) → askedAt plainName source tokens e s ≡ b
     → (j k : ℕ) → s ≡ Read j k → eqb (viewOf language17 source (rowsOf tokens) .class e j) ident ≡ b
 unfolding asked

@@ -93,7 +93,7 @@ module _ (list : List ℕ) (at : ℕ) where
   abbrev pub entryHere : List ℕ
   entryHere = take lineLength (drop at list)
 
-  -- .. and where the line ends the list, it is the only one; where not, the others begin behind the byte 10
+  -- .. and where the line ends the list, it is the only one; where not, the others begin after the byte 10
   pub entry-last : at ≤ length list → at + lineLength ≡ length list → split (drop at list) ≡ entryHere ∷ []
   entry-last h end =
       let d = drop at list in

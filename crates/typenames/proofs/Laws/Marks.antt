@@ -18,7 +18,7 @@ use Rattle.typenames.proofs.Laws.Entries.{entries-none, lineLength, ent
 use Rattle.typenames.proofs.Laws.Declared.{row-here, row-none}
 use Rattle.typenames.proofs.Laws.Slots.{hash-below}
 
--- one name marked: the list behind the slots stays, the name passes, and what passed before still does
+-- one name marked: the list after the slots stays, the name passes, and what passed before still does
 module _ (p w : List ℕ) where
   pub marked-length : length (marked p w) ≡ length p
   unfolding marked

@@ -67,16 +67,16 @@ all-kept p (n ∷ ns) room =
     let first = all-still (marked p n) ns after n (marked-passes p n room n refl) in
     rw first (ap (λ (rest : List (List ℕ)). n ∷ rest) (all-kept (marked p n) ns after))
 
--- where the list stands behind the slots, and its names and those of the source are marked, all type names are let through
+-- where the list stands after the slots, and its names and those of the source are marked, all type names are let through
 pub all-prepared : (opening p list : List ℕ) (ts : List Item) → slots ≤ length p → drop slots p ≡ list
     → preparedNames opening (markedAll (markedAll p (entries list)) (declared opening zero ts)) ts ≡ typeNames opening (entries list) ts
 unfolding preparedNames typeNames
-all-prepared opening p list ts room behind =
+all-prepared opening p list ts room after =
     let listed = entries list in
     let more = declared opening zero ts in
-    rw (← all-append p listed more, all-list p (listed ++ more), behind) (all-kept p (listed ++ more) room)
+    rw (← all-append p listed more, all-list p (listed ++ more), after) (all-kept p (listed ++ more) room)
 
--- a list that is copied behind the slots, so far
+-- a list that is copied after the slots, so far
 module _ (p list : List ℕ) (at : ℕ) (room : length p ≡ slots + length list) (copied : take at (drop slots p) ≡ take at list) where
   pub copied-more : at < length list → take (at + 1) (drop slots (set p (slots + at) (getD list at 0))) ≡ take (at + 1) list
   copied-more below =

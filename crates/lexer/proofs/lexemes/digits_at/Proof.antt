@@ -1,4 +1,4 @@
--- `lexer::lexemes::digits_at` meets its contract: what is no token here is no number. Assumes nothing.
+-- `lexer::lexemes::digits_at` meets its contract: what is not a token here is not a number. Assumes nothing.
 use Prim.Native.Nat.{ℕ, zero, suc}
 use mathlib.Core.Path.{_≡_, _∙_, refl, sym}
 use mathlib.Core.List.{List, [], _∷_}

@@ -18,7 +18,7 @@ use borrow.Author.Needs.{needs}
 use Rattle.lexer.proofs.lexemes.minus_at.Statement.{statement}
 use Rattle.lexer.proofs.lexemes.minus_at.Tie as tie
 
--- a lexeme that is no token takes no minus
+-- a lexeme that is not a token takes no minus
 no-minus : (l : Lexeme) → OneOf (0 ∷ 1 ∷ 3 ∷ 4 ∷ []) (tagOf the-type l) → withMinus l ≡ BadByte
 unfolding withMinus
 no-minus End h = refl

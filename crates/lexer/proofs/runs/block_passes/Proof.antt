@@ -1,4 +1,4 @@
--- `lexer::runs::block_passes` meets its contract. The loop's invariant: where `stop` was not found, the run goes on behind the bytes
+-- `lexer::runs::block_passes` meets its contract. The loop's invariant: where `stop` was not found, the run goes on after the bytes
 -- passed. Assumes nothing.
 use Prim.Native.Nat.{ℕ, _-_, _+_, _≤_}
 use mathlib.Core.Path.{_≡_, refl, sym, _∙_}

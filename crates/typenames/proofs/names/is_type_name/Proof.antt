@@ -21,8 +21,8 @@ returns c =
     let out = sym (may-be-named .ensures) ∙ not-true _ (c .if1 .taken) in
     rw (← text-at .ensures) (sym (refused _ (args .names .now) _ _ (args .scope) out))
 
-list-behind-requires : tie.Need-list-behind-requires
-list-behind-requires c κs = search needs
+list-after-requires : tie.Need-list-after-requires
+list-after-requires c κs = search needs
 
 is-listed-requires : tie.Need-is-listed-requires
 is-listed-requires c κs = search needs
@@ -34,11 +34,11 @@ returns-2 c =
     let if1 = c .before .before .before .if1 in
     let text-at = c .before .before .before .before .before .text-at in
     let args = c .before .before .before .before .before .before .before .before .before .args in
-    let list-behind = c .before .before .list-behind in
+    let list-after = c .before .before .list-after in
     let is-listed = c .before .is-listed in
     let pass = sym (may-be-named .ensures) ∙ not-false _ (if1 .left) in
     let listed = sym (is-listed .ensures) ∙ c .if2 .taken in
-    rw (← text-at .ensures, passed _ (args .names .now) _ _ (args .scope) pass, ← list-behind .ensures, listed)
+    rw (← text-at .ensures, passed _ (args .names .now) _ _ (args .scope) pass, ← list-after .ensures, listed)
 
 is-declared-requires : tie.Need-is-declared-requires
 is-declared-requires c κs = search needs
@@ -50,12 +50,12 @@ returns-3 c =
     let if1 = c .before .before .before .before .if1 in
     let text-at = c .before .before .before .before .before .before .text-at in
     let args = c .before .before .before .before .before .before .before .before .before .before .args in
-    let list-behind = c .before .before .before .list-behind in
+    let list-after = c .before .before .before .list-after in
     let is-listed = c .before .before .is-listed in
     let if2 = c .before .if2 in
     let pass = sym (may-be-named .ensures) ∙ not-false _ (if1 .left) in
     let unlisted = sym (is-listed .ensures) ∙ if2 .left in
-    rw (← text-at .ensures, passed _ (args .names .now) _ _ (args .scope) pass, ← list-behind .ensures, unlisted)
+    rw (← text-at .ensures, passed _ (args .names .now) _ _ (args .scope) pass, ← list-after .ensures, unlisted)
     (c .is-declared .ensures)
 
 pub is-type-name-spec : {M : Type 1} → statement M
@@ -65,7 +65,7 @@ is-type-name-spec =
     text-at-requires
     may-be-named-requires
     returns
-    list-behind-requires
+    list-after-requires
     is-listed-requires
     returns-2
     is-declared-requires

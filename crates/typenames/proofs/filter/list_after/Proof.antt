@@ -1,4 +1,4 @@
--- `typenames::filter::list_behind` meets its contract. Assumes nothing.
+-- `typenames::filter::list_after` meets its contract. Assumes nothing.
 use Prim.Native.Nat.{_-_}
 use lib.ListN.{length, drop, length-drop}
 use lib.Seq.{take-all, take-nil}
@@ -6,8 +6,8 @@ use Rattle.lexer.proofs.Laws.Fronts.{front-none}
 use Rattle.typenames.specs.Prepared.{slots}
 use native.Mathlib.Omega.{arith}
 use borrow.Author.Needs.{needs}
-use Rattle.typenames.proofs.filter.list_behind.Statement.{statement}
-use Rattle.typenames.proofs.filter.list_behind.Tie as tie
+use Rattle.typenames.proofs.filter.list_after.Statement.{statement}
+use Rattle.typenames.proofs.filter.list_after.Tie as tie
 
 sub-result : tie.Need-sub-result
 sub-result c = search needs
@@ -42,8 +42,8 @@ returns-2 c =
     let few = if1 .left in
     rw (front-none p (length p) (omega arith), front-none p slots (omega arith)) (take-nil (length p - length p))
 
-pub list-behind-spec : {M : Type 1} → statement M
-list-behind-spec =
+pub list-after-spec : {M : Type 1} → statement M
+list-after-spec =
     tie.close
     (tie.spec
     sub-result
