@@ -1,4 +1,4 @@
-// A day's schedule for one floor: setpoints by hour, lowered at night and raised again before the guests are up.
+// A day's schedule for one floor: setpoints by hour, lowered at night and raised again before the morning.
 $ `stdlib/core/time` t
 
 : i NIGHT_FROM 23

@@ -159,7 +159,7 @@ pub const CONDITIONS: &[&str] = &[
 /// token can begin it (answer 7) or not (answer 6).
 ///
 /// A bracketed list, a parameter and a payload are called for only by a token
-/// that begins one, and a statement that is no expression likewise: there is
+/// that begins one, and a statement that is not an expression likewise: there is
 /// no 6 for them. An arm stands at the level of the match's expression, which
 /// comes before it, so the limit is met there first; and so it is with a
 /// cast's trailing INT, at the level of the cast's type. Declarations, methods,

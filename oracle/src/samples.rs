@@ -242,7 +242,7 @@ pub const GRAMMAR: &[Sample] = &[
     program("% Drop T { @ drop T self → v { … } }"),
 ];
 
-/// Lines of the documents with their remarks, which are no part of the
+/// Lines of the documents with their remarks, which are not part of the
 /// language: the dash `—` begins no token.
 pub const WITH_REMARKS: &[&str] = &[
     "i  — integer (64-bit, signed)",

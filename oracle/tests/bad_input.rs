@@ -75,7 +75,7 @@ fn the_longest_source_and_one_byte_more() {
 
 #[test]
 fn a_long_list_is_no_nesting() {
-    // Items of a list are read in a loop, so many of them are no trouble.
+    // Items of a list are read in a loop, so many of them cause no trouble.
     let source = format!("@ g → v {{ {} }}", "x ".repeat(300_000));
     let mut tokens = vec![0; 3 * 300_006];
     let mut rows = vec![0; 4 * 300_004];

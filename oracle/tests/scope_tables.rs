@@ -105,7 +105,7 @@ fn refusal_5_waits_for_a_later_fault() {
     assert_eq!(refused_untouched(b": i a 1", b"", 0), refused(5, 4));
     assert_eq!(refused_untouched(b": i a 1 ,", b"", 0), refused(3, 8));
     assert_eq!(refused_untouched(b": i a 1 `", b"", 3), refused(4, 8));
-    // A source that is no program is refused 5 all the same.
+    // A source that is not a program is refused 5 all the same.
     assert_eq!(refused_untouched(b"; ; ;", b"", 8), refused(5, 3));
 }
 

@@ -1,5 +1,5 @@
 //! The eight refusals: their order and places, and what both tables hold
-//! afterwards, for tables whose lengths are no whole number of rows too.
+//! afterwards, for tables whose lengths are not a whole number of rows too.
 
 mod support;
 use nurl::{Answer, NAMES_LIMIT, SOURCE_LIMIT};

@@ -54,7 +54,7 @@ module _ (l : Language) (source names : List ℕ) where
       open-string : {place : ℕ} → Admitted → scan (l .lexical) source ≡ fault 4 place → Refusal 4 place tokens rows
       -- "more tokens than rows"
       few-token-rows : {ts : List Token} → Readable ts → tokenRoom tokens < length ts → Refusal 5 (length ts) tokens rows
-      -- "no program": the place is "the token that the leftmost reading cannot take"
+      -- "no program": the place is "the token that the leftmost reading .. cannot take"
       no-program : {ts : List Token} {place : ℕ} → Readable ts → length ts ≤ tokenRoom tokens
           → readTokens l limit source names ts ≡ stuck place → Refusal 6 place (filled ts tokens) (cleared rows)
       -- "too deep": the place is "a token that can begin the row called for"
@@ -111,13 +111,13 @@ module _ (l : Language) (source names : List ℕ) where
           → (rs : List Row) → DerivationOf l source names ts limit rs → ⊥
 
     -- The demands on the result r of a reader for this source, list and tables. Of the readers that document 01 names,
-    -- - one that refuses all falls to `accepts` (`refuses-all-falls` in proofs/);
-    -- - one that answers M1 for every source falls to `accepted`, by its token count (`answers-M1-falls`);
-    -- - one that never writes falls to `accepted`, by the token table (`never-writes-falls`);
-    -- - one that reads the first declaration and invents the others falls to `accepted`, by `derived`, and `only` fixes each row
-    --   (`reads-first-falls`);
-    -- - one that reports invented row counts falls to `accepted` for the tokens (`invents-tokens-falls`) and to `only` for the tree
-    --   (`invents-rows-falls`).
+    -- - one that refuses all violates `accepts` (`refuses-all-violates` in proofs/);
+    -- - one that answers M1 for every source violates `accepted`, by its token count (`answers-M1-violates`);
+    -- - one that never writes violates `accepted`, by the token table (`never-writes-violates`);
+    -- - one that reads the first declaration and invents the others violates `accepted`, by `derived`, and `only` fixes each row
+    --   (`reads-first-violates`);
+    -- - one that reports invented row counts violates `accepted` for the tokens (`invents-tokens-violates`) and `only` for the tree
+    --   (`invents-rows-violates`).
     pub record Demands (r : Result) : Type 0 where
       pub demand1 : Demand1 r
       pub demand2 : Demand2 r

@@ -70,7 +70,7 @@ tokenized e s table = withRoom (tokenRoom table) (counted e s)
 abbrev pub tokenizedValues : Edition → List ℕ → List ℕ → List ℕ
 tokenizedValues e s table = scannedValues (tokenized e s table)
 
--- "On 3, 4 and 5 the table is unchanged", and on 1
+-- on 1, 3, 4 and 5 the table is unchanged
 unfoldable pub afterAnswer : Scanned → List Token → List ℕ → List ℕ
 afterAnswer (Tokens n) ts table = filled ts table
 afterAnswer (Refused number place) ts table = table

@@ -7,7 +7,7 @@ use typenames::Checked;
 use typenames::Scope;
 ghost use mathlib.Core.Path.{_≡_};
 ghost use Prim.Native.Nat.{_≤_};
-ghost use lib.ListN.{length};
+ghost use lib.ListN.{length, replicate};
 ghost use Rattle.lexer.specs.Editions.{edition17};
 ghost use Rattle.lexer.specs.Tokens.{clean, scan};
 ghost use Rattle.lexer.specs.Table.{sourceLimit, rowsOf};
@@ -20,9 +20,10 @@ ghost use Rattle.nurl.specs.Results.{treeResult};
 // The most levels that rows may be nested: "where that row would be at level 201" it is too deep.
 const LEVEL_LIMIT: usize = 200;
 
-// Room for the longest list of names, prepared.
+// Room for the longest list of names, prepared. No slot is set yet: a slot that is set for no name would cost time at every question.
 fn names_buffer() -> [u8; 20480]
-    ensures { λ r. ⌜ 20480 ≡ length r ⌝ }
+    ensures size { λ r. ⌜ 20480 ≡ length r ⌝ }
+    ensures unset { λ r. ⌜ r ≡ replicate 20480 0 ⌝ }
 {
     [0; 20480]
 }

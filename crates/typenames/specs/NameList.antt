@@ -46,7 +46,7 @@ isIdent n OpenString = false
 unfoldable pub isName : Edition → List ℕ → Bool
 isName e w = isIdent (length w) (lexeme e w)
 
--- refusal 2 at the first byte of the earliest entry that is no name, the first entry being at an offset
+-- refusal 2 at the first byte of the earliest entry that is not a name, the first entry being at an offset
 unfoldable pub firstBad : Edition → ℕ → List (List ℕ) → Checked
 firstBad e at [] = Good
 firstBad e at (w ∷ ws) =

@@ -44,7 +44,7 @@ fn number_at(text: &[u8], at: usize) -> Number
     Number { value, next: i }
 }
 
-// The case whose header stands at `at`. Where there is none, its end is no place of the text.
+// The case whose header stands at `at`. Where there is none, its end is past the text.
 pub(crate) fn case_at(text: &[u8], at: usize) -> Case
     requires { ⌜ at ≤ length (now text) ⌝ }
     ensures { λ r. ⌜ at ≤ r .piece ⌝ }

@@ -52,7 +52,7 @@ fn run(
     print(out, to, answer, tokens, tree)
 }
 
-// Runs the case at `at`. What is no case ends the text.
+// Runs the case at `at`. What is not a case ends the text.
 fn run_case(
     text: &[u8],
     at: usize,

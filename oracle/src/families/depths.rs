@@ -6,7 +6,7 @@ use crate::generate::vocabulary::EACH_KIND;
 use crate::settings::BASE;
 use crate::tokens::scan;
 
-/// Something that holds itself: the text before and behind the inner one.
+/// Something that holds itself: the text before and after the inner one.
 struct Nest {
     /// What stands before the first level.
     head: String,
@@ -14,7 +14,7 @@ struct Nest {
     /// What stands inside the innermost level.
     core: &'static str,
     close: &'static str,
-    /// What stands behind the last level.
+    /// What stands after the last level.
     tail: &'static str,
 }
 
@@ -64,11 +64,11 @@ fn answer(source: &str) -> Answer {
 fn with_token(source: &str, place: usize, text: &str) -> String {
     let tokens = scan(source.as_bytes(), BASE.edition).expect("no fault");
     let token = tokens[place];
-    let (before, behind) = (
+    let (before, after) = (
         &source[..token.start],
         &source[token.start + token.length..],
     );
-    format!("{before}{text}{behind}")
+    format!("{before}{text}{after}")
 }
 
 /// A function's body that begins with so many `!`.

@@ -4,7 +4,7 @@
 use crate::cases::Case;
 use crate::settings::{NAME_LIST_LIMIT, SOURCE_LIMIT};
 
-/// A fault of each kind before and behind one of the other kind.
+/// A fault of each kind before and after one of the other kind.
 pub fn faults_in_order() -> Vec<Case> {
     let sources: [&[u8]; 20] = [
         b", `",
@@ -31,7 +31,7 @@ pub fn faults_in_order() -> Vec<Case> {
     sources.iter().map(Case::new).collect()
 }
 
-/// A fault behind more tokens than the table has rows: 3 or 4, never 5.
+/// A fault after more tokens than the table has rows: 3 or 4, never 5.
 pub fn faults_after_a_full_table() -> Vec<Case> {
     let mut cases = Vec::new();
     for rows in 0..4 {

@@ -11,7 +11,7 @@ fn exactly(source: &str) -> Case {
     case.tree_table(needed.tree_length())
 }
 
-/// Each prefix alone and with a token of each kind behind it.
+/// Each prefix alone and with a token of each kind after it.
 pub fn after_prefixes() -> Vec<Case> {
     let declarations = DECLARATIONS.iter().map(|prefix| prefix.to_string());
     let bodies = BODIES.iter().map(|prefix| format!("@ g → v {{ {prefix}"));

@@ -24,7 +24,7 @@ pub fn of_the_list() -> Vec<Case> {
 }
 
 /// Declarations and other tokens that put a name into N, or do not, before and
-/// behind a use of the name.
+/// after a use of the name.
 pub fn of_the_source() -> Vec<Case> {
     let mut cases = Vec::new();
     for declaration in DECLARATIONS {

@@ -5,7 +5,7 @@ use crate::random::Random;
 use crate::settings::LEVEL_LIMIT;
 
 /// Something that holds an inner expression or type: the tokens before and
-/// behind it, and how many levels deeper the inner one stands.
+/// after it, and how many levels deeper the inner one stands.
 struct Nest {
     open: &'static [Text],
     close: &'static [Text],

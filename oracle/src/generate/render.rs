@@ -73,7 +73,7 @@ fn stands_alone(text: Text) -> bool {
 }
 
 /// The source of a declaration as a fitter would set it out: a line for each
-/// brace, statements behind each other on lines of some length.
+/// brace, statements after each other on lines of some length.
 pub fn render_lines(tokens: &[Text], random: &mut Random, source: &mut Vec<u8>) {
     let mut depth = 0;
     let mut line_start = source.len();

@@ -84,7 +84,7 @@ impl Writer<'_> {
         }
     }
 
-    /// An IDENT that is no type name of the program.
+    /// An IDENT that is not a type name of the program.
     pub fn unknown_name(&mut self) -> Text {
         let name = self.any_name();
         if self.is_known(name) {

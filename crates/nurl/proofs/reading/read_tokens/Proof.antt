@@ -28,14 +28,14 @@ array-borrow-prefix-buffer c = search needs
 
 slice-aggregate-prepare : tie.Need-slice-aggregate-prepare
 slice-aggregate-prepare c =
-    let size = c .before .names-buffer .ensures in
+    let size = c .before .names-buffer .ensures .0 in
     let pre = c .before .before .before .before .before .before .pre in
     let short = pre .1 .0 in
     sym (length-take-le _ _ (omega arith))
 
 prepare-requires : tie.Need-prepare-requires
 prepare-requires c κs =
-    let size = c .before .names-buffer .ensures in
+    let size = c .before .names-buffer .ensures .0 in
     let pre = c .before .before .before .before .before .before .pre in
     let short = pre .1 .0 in
     length-take-le _ _ (omega arith)
@@ -46,7 +46,7 @@ prepared-size : (c : tie.After-prepare) →
 prepared-size c =
     let start = c .before .before .before .before .before .before .before in
     let names-buffer = c .before .before .names-buffer in
-    let size = names-buffer .ensures in
+    let size = names-buffer .ensures .0 in
     let short = start .pre .1 .0 in
     kept-size (c .prepare .last .1 .1 .1 .0) (names-buffer .result) (4096 + length (start .args .names .now)) (c .prepare .kept .1 .1 .1 .0) (omega arith)
 
