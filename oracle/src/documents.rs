@@ -32,17 +32,14 @@ impl Block {
     }
 }
 
-/// The documents that have scripts, each with its text. `LANGUAGE.md` may be
-/// missing.
+/// The documents that have scripts, each with its text.
 pub fn documents() -> Vec<(&'static str, String)> {
     let folder = Path::new(env!("CARGO_MANIFEST_DIR")).join("../docs");
-    let text_of = |name| std::fs::read_to_string(folder.join(name));
-    let refusals = text_of("REFUSALS.md").expect("docs/REFUSALS.md can be read");
-    let mut found = vec![("REFUSALS.md", refusals)];
-    if let Ok(language) = text_of("LANGUAGE.md") {
-        found.push(("LANGUAGE.md", language));
-    }
-    found
+    let text_of =
+        |name| std::fs::read_to_string(folder.join(name)).expect("a document that can be read");
+    ["REFUSALS.md", "LANGUAGE.md"]
+        .map(|name| (name, text_of(name)))
+        .into()
 }
 
 /// The scripts of a document in order, or what is wrong with the document.

@@ -1,6 +1,7 @@
 -- The table of NURL, grammar 1.7: the productions of document 009 under rules 1 to 11 of document 01, one a line. Above each
 -- group stands 009's production, and beside each condition the number of 01's rule, but for `opensStruct`, which is explained where
--- the questions are. A repetition `x*` or an option `x?` of 009 is a nonterminal with two productions; productions that begin alike share a nonterminal that says the row's kind.
+-- the questions are. A repetition `x*` or an option `x?` of 009 is a nonterminal with two productions; productions that begin alike
+-- share a nonterminal that says the row's kind. docs/LANGUAGE.md has the same productions and rules in words.
 use Prim.Native.Nat.{ℕ}
 use mathlib.Core.List.{List, [], _∷_}
 use Rattle.lexer.specs.Text.{bytes}

@@ -122,7 +122,8 @@ two-kept = refl
 pub reads-first-violates : MeetsDemands readsFirst → ⊥
 reads-first-violates meets =
     let said = meets two [] lentTokens lentRows .demand2 .accepted 10 5 two-accepted in
-    let due = answer17-meets two [] lentTokens lentRows .demand3 .only 10 5 two-accepted (said .token-list) (said .readable) 200 (said .row-list) (said .derived) in
+    let due = answer17-meets two [] lentTokens lentRows .demand3 .only 10 5 two-accepted (said .token-list) (said .readable) 200
+    (said .row-list) (said .derived) in
     let same = ap (λ (r : Result). getD (r .rows) 8 0) due ∙ sym (ap (λ (numbers : List ℕ). getD numbers 8 0) (said .row-table)) in
     let written = two-written in
     let kept = two-kept in
@@ -150,7 +151,8 @@ invents-tokens-violates meets =
 
 pub invents-rows-violates : MeetsDemands (inventsCounts (λ n. n) suc) → ⊥
 invents-rows-violates meets =
-    let due = meets [] [] lentTokens lentRows .demand3 .only 0 2 (rw empty-accepted refl) (empty .token-list) (empty .readable) 200 (empty .row-list) (empty .derived) in
+    let due = meets [] [] lentTokens lentRows .demand3 .only 0 2 (rw empty-accepted refl) (empty .token-list) (empty .readable) 200
+    (empty .row-list) (empty .derived) in
     let answers : counted (λ n. n) suc (answer17 [] [] lentTokens lentRows .answer)
     ≡ Accepted (length (empty .token-list)) (length (empty .row-list)) = ap (λ (r : Result). r .answer) due in
     let said : Accepted 0 2 ≡ Accepted (length (empty .token-list)) (length (empty .row-list)) = rw empty-accepted at answers in

@@ -121,12 +121,24 @@ module _ (e : Edition) (b : ℕ) (t : List ℕ) (byte : b < 256) where
   pub lexeme-slash : classOf b ≡ 4 → lexeme e (b ∷ t) ≡ orElse (comment (b ∷ t)) (mark e (b ∷ t))
   unfolding lexeme orElse
   lexeme-slash c =
-      rw (no-spaces b t (is-space 4 c), no-word b t (is-letter 4 c), plain-number e b t (is-minus 4 c), no-digits b t (is-digit 4 c), no-text b t (is-backtick 4 c))
+      rw (
+        no-spaces b t (is-space 4 c),
+        no-word b t (is-letter 4 c),
+        plain-number e b t (is-minus 4 c),
+        no-digits b t (is-digit 4 c),
+        no-text b t (is-backtick 4 c),
+      )
 
   pub lexeme-backtick : classOf b ≡ 5 → lexeme e (b ∷ t) ≡ orElse (text (b ∷ t)) (mark e (b ∷ t))
   unfolding lexeme orElse
   lexeme-backtick c =
-      rw (no-spaces b t (is-space 5 c), no-comment b t (is-slash 5 c), no-word b t (is-letter 5 c), plain-number e b t (is-minus 5 c), no-digits b t (is-digit 5 c))
+      rw (
+        no-spaces b t (is-space 5 c),
+        no-comment b t (is-slash 5 c),
+        no-word b t (is-letter 5 c),
+        plain-number e b t (is-minus 5 c),
+        no-digits b t (is-digit 5 c),
+      )
 
   pub lexeme-mark : (classOf b ≡ 0 → ⊥) → (classOf b ≡ 1 → ⊥) → (classOf b ≡ 2 → ⊥) → (classOf b ≡ 3 → ⊥)
       → (classOf b ≡ 4 → ⊥) → (classOf b ≡ 5 → ⊥) → lexeme e (b ∷ t) ≡ mark e (b ∷ t)

@@ -38,7 +38,8 @@ module _ (ts : List Token) (t : Token) (table : List ℕ) where
   unfolding filled
   last-row =
       let n = length ts * tokenWidth in
-      rw (← rows-length ts) (drop-append-add (tokenRows ts) (drop (length (tokenRows ts)) table) tokenWidth ∙ drop-drop tokenWidth (length (tokenRows ts)) table)
+      rw (← rows-length ts) (drop-append-add (tokenRows ts) (drop (length (tokenRows ts)) table) tokenWidth
+      ∙ drop-drop tokenWidth (length (tokenRows ts)) table)
 
   more-rows : length (ts ++ (t ∷ [])) * tokenWidth ≡ length ts * tokenWidth + tokenWidth
   more-rows = let l = length-append ts (t ∷ []) in omega arith

@@ -73,7 +73,8 @@ slice-aggregate-read-tokens c =
 
 read-tokens-requires : tie.Need-read-tokens-requires
 read-tokens-requires c κs =
-    let args = c .before .before .before .before .before .before .before .before .before .before .before .before .before .before .before .before .before .args in
+    let early = c .before .before .before .before .before .before .before .before .before .before in
+    let args = early .before .before .before .before .before .before .before .args in
     let check-names = c .before .before .before .before .before .before .before .before .before .before .before .check-names in
     let enum-told = c .before .before .before .before .before .before .before .before .before .enum-told in
     let tokenize = c .before .before .before .before .before .before .before .tokenize in
@@ -123,7 +124,8 @@ same-length-3 c = search needs
 
 returns-4 : tie.Need-returns-4
 returns-4 c =
-    let args = c .before .before .before .before .before .before .before .before .before .before .before .before .before .before .before .before .before .before .before .before .args in
+    let early = c .before .before .before .before .before .before .before .before .before .before in
+    let args = early .before .before .before .before .before .before .before .before .before .before .args in
     let check-names = c .before .before .before .before .before .before .before .before .before .before .before .before .before .before .check-names in
     let enum-told = c .before .before .before .before .before .before .before .before .before .before .before .before .enum-told in
     let tokenize = c .before .before .before .before .before .before .before .before .before .before .tokenize in

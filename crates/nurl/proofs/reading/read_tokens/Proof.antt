@@ -105,13 +105,15 @@ returns c =
     let step2 = c .before .before .before .before .before .before .before .before .step2 in
     let read-program = c .before .before .before .before .before .before .before .before .before .before .before .before .read-program in
     let names = named (c .before .before .before .before .before .before .before .before .before .before .before .before .before .before .before .before) in
-    let start = c .before .before .before .before .before .before .before .before .before .before .before .before .before .before .before .before .before .before .before .before .before .before .before in
+    let early = c .before .before .before .before .before .before .before .before .before .before in
+    let start = early .before .before .before .before .before .before .before .before .before .before .before .before .before in
     let args = start .args in
     let pre = start .pre in
     let over = if1 .taken in
     let same = read-program .kept .1 .1 .1 .0 in
     let is-room = room .ensures in
-    let law = full-rows (args .source .now) (args .names .now) (args .tokens .now) (pre .0) (pre .1 .1) (args .rows .now) _ _ names _ (read-program .ensures .0) _ _ (step2 .given .1) (omega arith) in
+    let law = full-rows (args .source .now) (args .names .now) (args .tokens .now) (pre .0) (pre .1 .1) (args .rows .now) _ _ names _
+    (read-program .ensures .0) _ _ (step2 .given .1) (omega arith) in
     (law .0, clear .ensures ∙ law .1)
 
 same-length-2 : tie.Need-same-length-2
@@ -137,7 +139,8 @@ returns-3 c =
     let step2 = c .before .before .before .before .step2 in
     let read-program = c .before .before .before .before .before .before .before .before .read-program in
     let names = named (c .before .before .before .before .before .before .before .before .before .before .before .before) in
-    let start = c .before .before .before .before .before .before .before .before .before .before .before .before .before .before .before .before .before .before .before in
+    let early = c .before .before .before .before .before .before .before .before .before .before in
+    let start = early .before .before .before .before .before .before .before .before .before in
     let args = start .args in
     let pre = start .pre in
     let fits = c .if1 .left in

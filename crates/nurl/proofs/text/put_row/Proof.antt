@@ -68,7 +68,8 @@ shared-slice-read-put-number-4 c = search needs
 
 cast-put-number-4 : tie.Need-cast-put-number-4
 cast-put-number-4 c =
-    let args = c .before .before .before .before .before .before .before .before .before .before .before .before .before .before .before .before .before .before .before .args in
+    let early = c .before .before .before .before .before .before .before .before .before .before in
+    let args = early .before .before .before .before .before .before .before .before .before .args in
     omega (arith, c .shared-slice-known5 .given (args .row * 4 + 3))
 
 put-number-requires-4 : tie.Need-put-number-requires-4
@@ -79,7 +80,8 @@ same-length c = search needs
 
 returns : tie.Need-returns
 returns c =
-    let put-number = c .before .before .before .before .before .before .before .before .before .before .before .before .before .before .before .before .before .put-number in
+    let early = c .before .before .before .before .before .before .before .before .before .before in
+    let put-number = early .before .before .before .before .before .before .before .put-number in
     let put-number2 = c .before .before .before .before .before .before .before .before .before .before .before .before .put-number2 in
     let put-number3 = c .before .before .before .before .before .before .before .put-number3 in
     let put-number4 = c .before .before .put-number4 in
