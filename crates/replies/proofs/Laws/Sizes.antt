@@ -1,33 +1,31 @@
 -- A reply fits its output: every number of a row that is printed has at most four digits, for it counts tokens, rows or kinds. Assumes
 -- nothing.
 use Prim.Native.Nat.{ℕ, zero, suc, _+_, _*_, _^_, _<_, _≤_, min}
-use mathlib.Core.Path.{_≡_, refl, sym, _∙_, ap}
+use mathlib.Core.Path.{_≡_, refl, _∙_, ap}
 use mathlib.Core.Bool.{Bool, true, false}
 use mathlib.Core.List.{List, [], _∷_, _++_}
 use native.Mathlib.Omega.{arith}
 use lib.Dec.{ltb}
 use lib.ListN.{length, drop, getD, replicate, length-append, length-drop, length-replicate}
 use lib.Seq.{getD-drop}
-use borrow.Author.Tests.{lt-ltb, le-ltb, ltb-true, ltb-false, le-leb}
+use borrow.Author.Tests.{le-leb}
 use Rattle.lexer.specs.Tests.{pick}
 use Rattle.lexer.specs.Text.{bytes}
-use Rattle.lexer.specs.Table.{tokenWidth, tokenRoom}
+use Rattle.lexer.specs.Table.{tokenRoom}
 use Rattle.grammar.specs.Rows.{Row}
 use Rattle.grammar.specs.RowKinds.{namedTypeRow}
 use Rattle.grammar.specs.Forests.{Forest, nothing, tree}
 use Rattle.grammar.specs.Languages.{language17}
-use Rattle.grammar.specs.TreeTable.{treeWidth, treeRoom, treeRow, treeRows, placed}
+use Rattle.grammar.specs.TreeTable.{treeWidth, treeRoom, treeRows, placed}
 use Rattle.grammar.specs.Answers.{levelLimit, Result, answer17}
 use Rattle.grammar.specs.Demands.{Refusal, too-long, bad-names, bad-byte, open-string, few-token-rows, no-program, too-deep, few-tree-rows}
-use Rattle.grammar.specs.Demands.{Acceptance, Demands}
+use Rattle.grammar.specs.Demands.{Demands}
 use Rattle.grammar.specs.declared.Answer.{Answer}
 use Rattle.grammar.specs.declared.Answer.the-variants.{Accepted, Refused}
 use Rattle.grammar.proofs.Laws.RowKinds.{KindsTo, none, each}
 use Rattle.grammar.proofs.Laws.Nurl17.{forest17, kinds17, answer17-meets}
 use Rattle.parser.proofs.Laws.Trees.{length-treeRows}
-use Rattle.nurl.specs.Texts.{decimal, number, line, space, newline, rowLine, rowLines, answerText, written, bytesWritten, overwritten}
-use Rattle.nurl.specs.declared.Written.{Written}
-use Rattle.nurl.specs.declared.Written.the-variants.{Whole, Cut}
+use Rattle.nurl.specs.Texts.{decimal, number, rowLine, rowLines, answerText, written, bytesWritten, overwritten}
 use Rattle.nurl.proofs.Laws.Texts.{overwritten-length, digits-of-ten, digits-of-more}
 use Rattle.nurl.proofs.Laws.Numbers.{refused-small}
 use Rattle.replies.specs.Desk.{scriptLimit, deskTokens, deskTree, deskResult, deskText, textRoom}

@@ -1,18 +1,11 @@
 -- `replies::reply::write_reply` meets its contract: the text of the answer, which fits. Assumes nothing.
-use mathlib.Core.Path.{_≡_, sym, _∙_, ap}
+use mathlib.Core.Path.{_≡_, _∙_}
 use lib.ListN.{length}
 use Rattle.replies.specs.Desk.{deskText, textRoom}
 use Rattle.replies.proofs.Laws.Sizes.{reply-text, reply-fits, whole-text}
 use borrow.Author.Needs.{needs}
 use Rattle.replies.proofs.reply.write_reply.Statement.{statement}
 use Rattle.replies.proofs.reply.write_reply.Tie as tie
-use Rattle.replies.proofs.reply.write_reply.Reads as reads
-use Rattle.replies.proofs.reply.write_reply.Lts as lts
-use Rattle.nurl.proofs.bytes_written.Reads as bytes-written-reads
-use Rattle.nurl.proofs.write_answer.Reads as write-answer-reads
-use Rattle.replies.proofs.reply.answer.Reads as answer-reads
-use Rattle.replies.proofs.reply.token_table.Reads as token-table-reads
-use Rattle.replies.proofs.reply.tree_table.Reads as tree-table-reads
 
 token-table-requires : tie.Need-token-table-requires
 token-table-requires c κs = search needs

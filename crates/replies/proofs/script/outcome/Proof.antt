@@ -1,15 +1,12 @@
 -- `replies::script::outcome` meets its contract. The test is on the number that the machine reads back from the result's bits. Assumes
 -- nothing.
-use Prim.Native.Nat.{ℕ}
-use mathlib.Core.Path.{_≡_, refl, ap, _∙_}
-use mathlib.Core.Bool.{Bool, true, false}
+use mathlib.Core.Path.{_≡_, ap, _∙_}
+use mathlib.Core.Bool.{true, false}
 use lib.IntN.{ℤ}
 use mir.Syntax.{w64}
 use mir.Val.{toZ, ofZ}
 use mir.Facts.{toZ-ofZ}
-use Rattle.lexer.specs.Tests.{pick}
 use Rattle.replies.specs.Input.{outcomeOf}
-use Rattle.replies.specs.declared.Outcome.the-variants.{Interrupted, Failed}
 use Rattle.replies.proofs.Laws.Calls.{failed-call, ended-call, got-call}
 use Rattle.replies.proofs.script.outcome.Statement.{statement}
 use Rattle.replies.proofs.script.outcome.Tie as tie

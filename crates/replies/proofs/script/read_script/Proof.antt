@@ -1,14 +1,11 @@
 -- `replies::script::read_script` meets its contract. Each turn puts a byte or takes one retry. Assumes nothing.
 use Prim.Native.Nat.{ℕ, _+_, _-_, _≤_}
-use mathlib.Core.Path.{_≡_, refl}
+use mathlib.Core.Path.{_≡_}
 use native.Mathlib.Omega.{arith}
 use lib.ListN.{length, length-append, length-take, length-drop}
 use borrow.Author.Needs.{needs}
 use Rattle.replies.proofs.script.read_script.Statement.{statement}
 use Rattle.replies.proofs.script.read_script.Tie as tie
-use Rattle.replies.proofs.script.read_script.Reads as reads
-use Rattle.replies.proofs.script.read_script.Lts as lts
-use Rattle.replies.proofs.script.read_some.Reads as read-some-reads
 
 abbrev Inv-loop : tie.InvT-loop
 Inv-loop input buffer₀ done₀ retries₀ buffer done retries = (length buffer ≡ length buffer₀) × (done ≤ length buffer)

@@ -1,8 +1,6 @@
 -- `replies::script::read_some` meets its contract. Assumes nothing.
-use Prim.Native.Nat.{ℕ}
-use mathlib.Core.Path.{_≡_, sym, _∙_}
+use mathlib.Core.Path.{sym, _∙_}
 use native.Mathlib.Omega.{arith}
-use Rattle.replies.specs.declared.Outcome.the-variants.{Got}
 use Rattle.replies.proofs.Laws.Calls.{got-counted}
 use borrow.Author.Needs.{needs}
 use Rattle.replies.proofs.script.read_some.Statement.{statement}

@@ -1,6 +1,5 @@
 -- `vectors::table::digest` is safe and ends: the sum stays below the prime. Assumes nothing.
 use Prim.Native.Nat.{_-_, _≤_, _<_}
-use native.Mathlib.Omega.{arith}
 use lib.ListN.{length}
 use borrow.Author.Needs.{needs}
 use Rattle.vectors.proofs.table.digest.Statement.{statement}
