@@ -1,2 +1,2 @@
-// A minus with a space before its number is a subtraction of two operands, and no constant: refused 6 at token 3.
+// A minus with a space before its number is a subtraction of two operands, and not a constant: refused 6 at token 3.
 : i floor - 40
