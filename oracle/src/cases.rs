@@ -14,7 +14,7 @@ pub const LONGEST_PIECE: usize = 70_000;
 pub const LONGEST_SOURCE: usize = SOURCE_LIMIT + 1;
 pub const LONGEST_NAME_LIST: usize = 16_385;
 pub const LONGEST_TOKEN_TABLE: usize = 9_000;
-pub const LARGE_TOKEN_TABLE: usize = 1_200_000;
+pub const LARGE_TOKEN_TABLE: usize = 750_000;
 pub const LONGEST_TREE_TABLE: usize = 12_000;
 pub const LONGEST_FILE: usize = 1_400_000;
 

@@ -210,17 +210,17 @@ fn large_reading(case: &Case) -> (usize, Vec<u32>) {
 fn the_large_sources_are_full_of_what_they_are_for() {
     let cases = family("large sources");
     let most = [
-        (row::LET, 112_800),
-        (row::VARIANT, 399_392),
+        (row::LET, 70_336),
+        (row::VARIANT, 249_904),
         (row::CONSTANT, 4_096),
         (row::CONSTANT, 4_112),
-        (row::BLOCK, 195_520),
+        (row::BLOCK, 102_272),
     ];
     assert_eq!(cases.len(), most.len());
     for (case, (kind, count)) in cases.iter().zip(most) {
         assert_eq!(case.piece.len() * case.repeats, SOURCE_LIMIT);
         let (tokens, kinds) = large_reading(case);
-        assert!(tokens <= 400_000, "{tokens}");
+        assert!(tokens <= 250_000, "{tokens}");
         assert_eq!(case.token_length, (tokens + 3) * 3 + 2);
         assert_eq!(kinds.iter().filter(|found| **found == kind).count(), count);
     }
@@ -228,7 +228,7 @@ fn the_large_sources_are_full_of_what_they_are_for() {
 
 #[test]
 fn the_large_sources_lack_only_room_in_the_tree_table() {
-    let rows = [284_145, 399_409, 12_289, 12_337, 197_601];
+    let rows = [177_313, 249_921, 12_289, 12_337, 103_361];
     assert_eq!(
         answers_of("large sources"),
         rows.map(|rows| refused(8, rows))

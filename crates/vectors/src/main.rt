@@ -118,10 +118,10 @@ fn source_buffer() -> [u8; 1048577]
     [0; 1048577]
 }
 
-fn tokens_buffer() -> [u32; 1200000]
-    ensures { λ r. ⌜ 1200000 ≡ length r ⌝ }
+fn tokens_buffer() -> [u32; 750000]
+    ensures { λ r. ⌜ 750000 ≡ length r ⌝ }
 {
-    [0; 1200000]
+    [0; 750000]
 }
 
 fn tree_buffer() -> [u32; 12000]

@@ -21,7 +21,7 @@ enum Filling {
     Zero,
 }
 
-// Number `i` of a table before a case. A table has at most 1,200,000 numbers, so nothing wraps.
+// Number `i` of a table before a case. A table has at most 750,000 numbers, so nothing wraps.
 fn pattern(base: u32, i: usize) -> u32 {
     std::num::wrapping_add_u32(base, (i % 4294967296) as u32)
 }

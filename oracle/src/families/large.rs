@@ -68,18 +68,15 @@ fn lets() -> Vec<u8> {
         } else {
             String::new()
         };
-        let (first, second) = (name(2 * index, 3), name(2 * index + 1, 3));
+        let (first, second) = (name(2 * index, 9), name(2 * index + 1, 9));
         format!("{ended}:K{letter} {first} 1\n:{second} 2\n").into_bytes()
     });
     filled(format!("{types}{function}").as_bytes(), items, b"}\n")
 }
 
-/// One enum of variants with names of one or two letters.
+/// One enum of variants with names of three letters.
 fn variants() -> Vec<u8> {
-    let items = (0..).map(|index| {
-        let letters = if index % 8 < 3 { 1 } else { 2 };
-        format!("{} ", name(index, letters)).into_bytes()
-    });
+    let items = (0..).map(|index| format!("{} ", name(index, 3)).into_bytes());
     filled(b":|Kind {\n", items, b"}\n")
 }
 
@@ -123,7 +120,7 @@ fn all_bytes_but(left_out: u8, length: usize) -> Vec<u8> {
 /// Functions with a body in which blocks are nested: the innermost stands at
 /// level 190, and the body at level 3.
 fn nested_blocks() -> Vec<u8> {
-    let (open, close) = ("{ ".repeat(188), "} ".repeat(188));
+    let (open, close) = ("{    ".repeat(188), "}    ".repeat(188));
     let function = format!("@ g → v {open}{close}\n").into_bytes();
     filled(b"", std::iter::repeat(function), b"")
 }

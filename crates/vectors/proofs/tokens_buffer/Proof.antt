@@ -6,7 +6,7 @@ use Rattle.vectors.proofs.tokens_buffer.Statement.{statement}
 use Rattle.vectors.proofs.tokens_buffer.Tie as tie
 
 returns : tie.Need-returns
-returns c = sym (length-replicate {0} {A = ℕ} 1200000 0)
+returns c = sym (length-replicate {0} {A = ℕ} 750000 0)
 
 pub tokens-buffer-spec : {M : Type 1} → statement M
 tokens-buffer-spec = tie.close (tie.spec returns)
