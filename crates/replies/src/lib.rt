@@ -20,3 +20,9 @@ pub enum Input {
     Script(usize),
     Unreadable,
 }
+
+// How far reading has come after a call: so many bytes and so many retries left, or what it came to.
+pub enum Progress {
+    More(usize, usize),
+    Done(Input),
+}

@@ -1,9 +1,12 @@
 // Reading a script from a descriptor. A call that fails is never taken for the end of the input.
 use crate::Input;
 use crate::Outcome;
+use crate::Progress;
 ghost use mathlib.Core.Path.{_≡_};
+ghost use Prim.Native.Nat.{ℕ, _+_, _^_, _<_};
 ghost use lib.ListN.{length};
-ghost use Rattle.replies.specs.Input.{outcomeOf, GotWithin, ScriptWithin};
+ghost use Rattle.replies.specs.Input.{outcomeOf, afterCall, GotWithin, ScriptWithin};
+ghost use Rattle.replies.specs.declared.Outcome.the-variants.{Got};
 
 // How often a call that a signal interrupts is tried again for one script. A loop that is proved has to end.
 const RETRIES: usize = 1000000;
@@ -34,6 +37,24 @@ fn read_some(input: i32, room: &mut [u8]) -> Outcome
     outcome(result, interrupted, count)
 }
 
+// How far reading has come after a call, from so many bytes and so many retries on.
+fn after_call(done: usize, retries: usize, outcome: Outcome) -> Progress
+    requires { ⌜ ((count : ℕ) → outcome ≡ Got count → done + count < 2 ^ 64) ⌝ }
+    ensures { λ r. ⌜ r ≡ afterCall done retries outcome ⌝ }
+{
+    match outcome {
+        Outcome::Got(count) => Progress::More(done + count, retries),
+        Outcome::End => Progress::Done(Input::Script(done)),
+        Outcome::Interrupted => {
+            if retries == 0 {
+                return Progress::Done(Input::Unreadable);
+            }
+            Progress::More(done, retries - 1)
+        }
+        Outcome::Failed => Progress::Done(Input::Unreadable),
+    }
+}
+
 // Reads until the buffer is full or the input ends.
 pub fn read_script(input: i32, buffer: &mut [u8]) -> Input
     ensures { λ r. ⌜ ScriptWithin (length (now (buffer .exit))) r ⌝ }
@@ -41,17 +62,14 @@ pub fn read_script(input: i32, buffer: &mut [u8]) -> Input
     let mut done = 0;
     let mut retries = RETRIES;
     while done < buffer.len() {
-        let got = read_some(input, &mut buffer[done..]);
-        match got {
-            Outcome::Got(count) => done += count,
-            Outcome::End => return Input::Script(done),
-            Outcome::Interrupted => {
-                if retries == 0 {
-                    return Input::Unreadable;
-                }
-                retries -= 1;
+        let outcome = read_some(input, &mut buffer[done..]);
+        let progress = after_call(done, retries, outcome);
+        match progress {
+            Progress::More(bytes, left) => {
+                done = bytes;
+                retries = left;
             }
-            Outcome::Failed => return Input::Unreadable,
+            Progress::Done(read) => return read,
         }
     }
     Input::Script(done)
