@@ -9,7 +9,7 @@ use Rattle.grammar.specs.Grammars.{Production, Names, View}
 use Rattle.grammar.specs.First.{canBegin, canSkip}
 use Rattle.grammar.specs.Reading.{ready, Choice, none, one}
 use Rattle.grammar.specs.Classes.{typeName}
-use Rattle.grammar.specs.Nurl.{productions17}
+use Rattle.grammar.specs.Nurl.{productions}
 
 -- one token of class c, and one answer to every question
 abbrev pub shown : ℕ → Bool → View
@@ -59,5 +59,5 @@ kindOf c = pick (eqb c typeName) ident c
 -- an IDENT taken not to be a type name: for types, expressions, statements and declarations, of which it is asked, neither matters.
 unfoldable pub kindAlternative : ℕ → ℕ → ℕ
 kindAlternative x kind =
-    let number = alternative productions17 kind false x in
+    let number = alternative productions kind false x in
     pick (leb kind lastKind) number 0

@@ -1,17 +1,17 @@
 -- A language: an edition of NURL, with its lexical rules and its grammar; and what the grammar asks of some tokens.
 use Prim.Native.Nat.{ℕ}
-use mathlib.Core.List.{List, [], _∷_, _++_}
+use mathlib.Core.List.{List, [], _++_}
 use lib.Dec.{eqb}
-use lib.ListN.{drop, getD}
+use lib.ListN.{take, drop, getD}
 use Rattle.lexer.specs.Tests.{and, pick}
-use Rattle.lexer.specs.Kinds.{ident, leftBrace, leftBracket}
+use Rattle.lexer.specs.Kinds.{ident}
 use Rattle.lexer.specs.Editions.{Edition, edition17}
-use Rattle.typenames.specs.TypeNames.{Item, isNamed}
+use Rattle.typenames.specs.TypeNames.{Item, opening17, isNamed}
 use Rattle.grammar.specs.Grammars.{endOfTokens, Production, Names, View}
 use Rattle.grammar.specs.Nonterminals.{program}
 use Rattle.grammar.specs.Classes.{typeName}
 use Rattle.grammar.specs.Questions.{Question, answerTo}
-use Rattle.grammar.specs.Nurl.{productions17, questions17}
+use Rattle.grammar.specs.Nurl.{productions, questions17}
 
 pub record Language : Type 0 where
   pub lexical : Edition
@@ -21,7 +21,7 @@ pub record Language : Type 0 where
   pub questions : List Question
   -- the kinds of token that make an IDENT between `:` and them a type name
   pub opening : List ℕ
-  -- the names that a nonterminal adds to those in force inside it, given the tokens from its first on
+  -- the names that a nonterminal adds to those in force inside it, given the tokens before its first
   pub adds : ℕ → List Item → Names
 
 -- grammar 1.7, document 009: no nonterminal adds names
@@ -29,10 +29,10 @@ abbrev pub language17 : Language
 language17 =
     record {
       lexical = edition17;
-      productions = productions17;
+      productions = productions;
       start = program;
       questions = questions17;
-      opening = leftBrace ∷ leftBracket ∷ [];
+      opening = opening17;
       adds = λ x ts. [];
     }
 
@@ -49,5 +49,5 @@ view l ts =
     record {
       class = λ e i. classOf e (getD ts i noItem);
       holds = λ q i. answerTo (l .questions) q (drop i ts);
-      inside = λ x i e. l .adds x (drop i ts) ++ e;
+      inside = λ x i e. l .adds x (take i ts) ++ e;
     }

@@ -155,3 +155,7 @@ type = 48
 
 abbrev pub parenthesized : ℕ
 parenthesized = 49
+
+-- `type_params?` of a struct
+abbrev pub structParameters : ℕ
+structParameters = 50

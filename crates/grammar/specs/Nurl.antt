@@ -1,6 +1,6 @@
--- The table of NURL, grammar 1.7: the productions of document 009 under rules 1 to 11 of document 01, one a line. Above each
--- group stands 009's production, and beside each condition the number of 01's rule, but for `opensStruct`, which is explained where
--- the questions are. A repetition `x*` or an option `x?` of 009 is a nonterminal with two productions; productions that begin alike
+-- The table of NURL: the productions of document 009 under rules 1 to 11 of document 01, one a line. They are those of both editions,
+-- which differ in their questions. Above each group stands 009's production, and beside each condition the number of 01's rule, but
+-- for `opensStruct`, which is explained where the questions are. A repetition `x*` or an option `x?` of 009 is a nonterminal with two productions; productions that begin alike
 -- share a nonterminal that says the row's kind. docs/LANGUAGE.md has the same productions and rules in words.
 use Prim.Native.Nat.{ℕ}
 use mathlib.Core.List.{List, [], _∷_}
@@ -8,6 +8,7 @@ use Rattle.lexer.specs.Text.{bytes}
 use Rattle.lexer.specs.Kinds.{ident, keyword, boolean, sizeof, int, string, dollar, ampersand, at, percent, colon, bar, equal, semicolon}
 use Rattle.lexer.specs.Kinds.{tilde, leftBrace, rightBrace, leftParen, rightParen, leftBracket, rightBracket, bang, caret, backslash}
 use Rattle.lexer.specs.Kinds.{question, dot, hash, star, questionQuestion, arrow}
+use Rattle.typenames.specs.TypeNames.{opening17}
 use Rattle.grammar.specs.Grammars.{Condition, next, query, Symbol, token, part, when, unless, Makes, row, rowOf, says, noRow}
 use Rattle.grammar.specs.Grammars.{Production}
 use Rattle.grammar.specs.RowKinds.{programRow, importRow, foreignRow, traitRow, implRow, functionRow, structRow, enumRow}
@@ -21,7 +22,7 @@ use Rattle.grammar.specs.Nonterminals.{functions, function, definition, 
 use Rattle.grammar.specs.Nonterminals.{variants, variant, payloadTypes, typeParameters, nameList, moreNames, block, statements}
 use Rattle.grammar.specs.Nonterminals.{statement, binding, assignment, tildeStatement, loopOrComplement, expressions, expression}
 use Rattle.grammar.specs.Nonterminals.{literal, tryOrClosure, typeArguments, wordList, moreWords, castRest, selector, arms, arm}
-use Rattle.grammar.specs.Nonterminals.{payloads3, payloads2, payloads1, payload, types, type, parenthesized}
+use Rattle.grammar.specs.Nonterminals.{payloads3, payloads2, payloads1, payload, types, type, parenthesized, structParameters}
 use Rattle.grammar.specs.Classes.{name, declaredWord, word, typeWord, armHead, payloadToken, literals, operators}
 use Rattle.grammar.specs.Questions.{Piece, oneOf, someOf, spelled, Question}
 
@@ -67,23 +68,31 @@ opensClosure = 5
 abbrev pub zeroOrOne : ℕ
 zeroOrOne = 6
 
+abbrev pub opensStructNames : ℕ
+opensStructNames = 7
+
 abbrev pub asking : ℕ → List (List Piece) → Question
 asking number patterns = record { number = number; patterns = patterns }
 
 abbrev pub single : ℕ → Piece
 single kind = oneOf (kind ∷ [])
 
-unfoldable pub questions17 : List Question
-unfolding bytes
-questions17 =
-    -- rule 2: "`[` opens such a list where one is allowed and one or more such words run up to a `]`"
-    asking opensNames ((single leftBracket ∷ someOf (ident ∷ boolean ∷ []) ∷ single rightBracket ∷ []) ∷ []) ∷
+-- rule 2: "`[` opens such a list where one is allowed and one or more such words run up to a `]`"
+abbrev pub declaredNames : List Piece
+declaredNames = single leftBracket ∷ someOf (ident ∷ boolean ∷ []) ∷ single rightBracket ∷ []
+
+-- The questions by what the editions differ in: the kinds that can follow a struct's name, the patterns of a struct's list, and those of
+-- a cast's INT. A question without patterns is always answered no.
+unfoldable pub questionsWith : List ℕ → List (List Piece) → List (List Piece) → List Question
+questionsWith opening structNames castInt =
+    -- rule 2
+    asking opensNames (declaredNames ∷ []) ∷
     -- rule 2: "at a call .. keywords too"
     asking opensWords ((single leftBracket ∷ someOf (ident ∷ boolean ∷ keyword ∷ []) ∷ single rightBracket ∷ []) ∷ []) ∷
-    -- After `:`, an IDENT before `{` or `[` is the name of a struct; what begins otherwise, `|` apart, is a constant. This is not
-    -- a rule of 01's, and it loses no derivation (`struct-asked` and `constant-asked` in proofs/): a constant whose type is an IDENT
-    -- goes on with another IDENT.
-    asking opensStruct ((single ident ∷ oneOf (leftBrace ∷ leftBracket ∷ []) ∷ []) ∷ []) ∷
+    -- After `:`, an IDENT before one of the opening kinds is the name of a struct; what begins otherwise, `|` apart, is a constant.
+    -- This is not a rule of 01's, and it loses no derivation (`struct-asked` and `constant-asked` in proofs/): a constant whose type
+    -- is an IDENT goes on with another IDENT.
+    asking opensStruct ((single ident ∷ oneOf opening ∷ []) ∷ []) ∷
     -- rule 6: "two IDENTs make a foreach"
     asking twoNames ((single ident ∷ single ident ∷ []) ∷ []) ∷
     -- rule 7: "exactly before `→`; or a keyword, `*`, `?`, `[` or `!`; or `(` `@`; or IDENT IDENT `→`"
@@ -92,12 +101,19 @@ questions17 =
     (oneOf (keyword ∷ star ∷ question ∷ leftBracket ∷ bang ∷ []) ∷ []) ∷
     (single leftParen ∷ single at ∷ []) ∷
     (single ident ∷ single ident ∷ single arrow ∷ []) ∷ []) ∷
-    -- rule 8: "a directly following INT whose text is `0` or `1`"
-    asking zeroOrOne ((spelled int (bytes "0" ∷ bytes "1" ∷ []) ∷ []) ∷ []) ∷
+    -- rule 8
+    asking zeroOrOne castInt ∷
+    -- rule 2, of a struct
+    asking opensStructNames structNames ∷
     []
 
-unfoldable pub productions17 : List Production
-productions17 =
+-- for grammar 1.7: a struct's list is as any other, and rule 8 takes "a directly following INT whose text is `0` or `1`"
+unfoldable pub questions17 : List Question
+unfolding bytes questionsWith
+questions17 = questionsWith opening17 (declaredNames ∷ []) ((spelled int (bytes "0" ∷ bytes "1" ∷ []) ∷ []) ∷ [])
+
+unfoldable pub productions : List Production
+productions =
     -- program = decl* EOF; the end belongs to every derivation of a token list
     rule program (row programRow) (part declarations ∷ []) ∷
     rule declarations noRow (part declaration ∷ part declarations ∷ []) ∷
@@ -126,7 +142,9 @@ productions17 =
     -- struct_decl, enum_decl and const_decl begin with ':'
     rule declaration rowOf (one colon ∷ part definition ∷ []) ∷
     -- struct_decl = ':' IDENT type_params? '{' field* '}'; by rule 11 there is no `~` in it
-    rule definition (says structRow) (when (query opensStruct) ∷ token name ∷ part typeParameters ∷ one leftBrace ∷ part fields ∷ one rightBrace ∷ []) ∷
+    rule definition (says structRow) (when (query opensStruct) ∷ token name ∷ part structParameters ∷ one leftBrace ∷ part fields ∷ one rightBrace ∷ []) ∷
+    rule structParameters noRow (when (query opensStructNames) {- rule 2 -} ∷ part nameList ∷ []) ∷
+    rule structParameters noRow (unless (query opensStructNames) {- rule 2 -} ∷ []) ∷
     -- field = type IDENT?
     rule fields noRow (part field ∷ part fields ∷ []) ∷
     rule fields noRow [] ∷

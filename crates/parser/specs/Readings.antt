@@ -11,7 +11,7 @@ use Rattle.grammar.specs.Grammars.{Symbol, part, Production, Names, View}
 use Rattle.grammar.specs.Rows.{Row}
 use Rattle.grammar.specs.Reading.{Outcome, ok, stuck, deep, readWithin, whole}
 use Rattle.grammar.specs.Nonterminals.{program}
-use Rattle.grammar.specs.Nurl.{productions17}
+use Rattle.grammar.specs.Nurl.{productions}
 use Rattle.grammar.specs.Languages.{language17}
 use Rattle.grammar.specs.Sources.{viewOf}
 use Rattle.parser.specs.Trees.{put}
@@ -44,7 +44,7 @@ pub data Reads (g : List Production) (v : View) (count : ℕ) (e : Names) (n lea
 -- for grammar 1.7: the tokens of a table, with their texts in a source
 abbrev pub Reads17 : List ℕ → List ℕ → Names → ℕ → ℕ → List Symbol → Step → List ℕ → Step → List ℕ → Type 0
 Reads17 source tokens e n least =
-    Reads productions17 (viewOf language17 source (rowsOf tokens)) (tokenRoom tokens) e n least 0
+    Reads productions (viewOf language17 source (rowsOf tokens)) (tokenRoom tokens) e n least 0
 
 -- the names in force, by a prepared list and the tokens of a table
 abbrev pub namesIn : List ℕ → List ℕ → List ℕ → Scope → Names
@@ -73,7 +73,7 @@ abbrev pub ReadsAll : List Symbol → List ℕ → List ℕ → List ℕ → Sco
 ReadsAll ss source names tokens scope n table to after =
     let e = namesIn source names tokens scope in
     let v = viewOf language17 source (rowsOf tokens) in
-    Reads productions17 v (tokenRoom tokens) e n 0 1 ss (Read 0 0) table to after
+    Reads productions v (tokenRoom tokens) e n 0 1 ss (Read 0 0) table to after
 
 -- .. of a whole program
 abbrev pub ReadsWhole : List ℕ → List ℕ → List ℕ → Scope → ℕ → List ℕ → Step → List ℕ → Type 0

@@ -23,11 +23,11 @@ use Rattle.grammar.specs.Nonterminals.{functions, function, definition, 
 use Rattle.grammar.specs.Nonterminals.{variants, variant, payloadTypes, typeParameters, nameList, moreNames, block, statements}
 use Rattle.grammar.specs.Nonterminals.{statement, binding, assignment, tildeStatement, loopOrComplement, expressions, expression}
 use Rattle.grammar.specs.Nonterminals.{literal, tryOrClosure, typeArguments, wordList, moreWords, castRest, selector, arms, arm}
-use Rattle.grammar.specs.Nonterminals.{payloads3, payloads2, payloads1, payload, types, type, parenthesized}
+use Rattle.grammar.specs.Nonterminals.{payloads3, payloads2, payloads1, payload, types, type, parenthesized, structParameters}
 use Rattle.grammar.specs.Classes.{name, declaredWord, word, typeWord, armHead, payloadToken, literals, operators}
 use Rattle.grammar.specs.Reading.{none, one, choice}
 use Rattle.grammar.specs.Nurl.{one as only, rule, plainName, anyName, aTilde, aBrace, aStar, opensNames, opensWords, opensStruct}
-use Rattle.grammar.specs.Nurl.{twoNames, opensClosure, zeroOrOne, productions17}
+use Rattle.grammar.specs.Nurl.{twoNames, opensClosure, zeroOrOne, opensStructNames, productions}
 use Rattle.grammar.specs.Alternatives.{alternative, nth, kindOf, kindAlternative}
 use Rattle.grammar.proofs.Laws.Checks.{implies, every, below}
 use Rattle.grammar.proofs.Laws.CheckLaws.{below-at}
@@ -62,39 +62,39 @@ unfolding whetherSome
 whether-none m n h = ap (λ (s : ℕ). whetherSome s m n) h
 
 -- what is taken, where x asks no question but q ..
-pub takes17 : (v : View) (e : Names) (j x q : ℕ) (b : Bool) (expected : ℕ → ℕ) → asksOnly q x productions17 ≡ true
-    → below (λ (c : ℕ). eqb (alternative productions17 c b x) (expected c)) classes ≡ true → v .class e j < classes
-    → v .holds q j ≡ b → choice productions17 v e x j ≡ nth x (expected (v .class e j)) productions17
+pub takes17 : (v : View) (e : Names) (j x q : ℕ) (b : Bool) (expected : ℕ → ℕ) → asksOnly q x productions ≡ true
+    → below (λ (c : ℕ). eqb (alternative productions c b x) (expected c)) classes ≡ true → v .class e j < classes
+    → v .holds q j ≡ b → choice productions v e x j ≡ nth x (expected (v .class e j)) productions
 takes17 v e j x q b expected asks test low answer =
-    choice-nth productions17 v e x j q asks
-    ∙ ap (λ (t : Bool). nth x (alternative productions17 (v .class e j) t x) productions17) answer
-    ∙ ap (λ (n : ℕ). nth x n productions17) (eqb-true _ (expected (v .class e j)) (below-at _ classes (v .class e j) test low))
+    choice-nth productions v e x j q asks
+    ∙ ap (λ (t : Bool). nth x (alternative productions (v .class e j) t x) productions) answer
+    ∙ ap (λ (n : ℕ). nth x n productions) (eqb-true _ (expected (v .class e j)) (below-at _ classes (v .class e j) test low))
 
 -- .. and where it asks none
-pub takes17-plain : (v : View) (e : Names) (j x : ℕ) (expected : ℕ → ℕ) → asksNone x productions17 ≡ true
-    → below (λ (c : ℕ). eqb (alternative productions17 c false x) (expected c)) classes ≡ true → v .class e j < classes
-    → choice productions17 v e x j ≡ nth x (expected (v .class e j)) productions17
+pub takes17-plain : (v : View) (e : Names) (j x : ℕ) (expected : ℕ → ℕ) → asksNone x productions ≡ true
+    → below (λ (c : ℕ). eqb (alternative productions c false x) (expected c)) classes ≡ true → v .class e j < classes
+    → choice productions v e x j ≡ nth x (expected (v .class e j)) productions
 takes17-plain v e j x expected asks test low =
-    choice-plain productions17 v e x j false asks
-    ∙ ap (λ (n : ℕ). nth x n productions17) (eqb-true _ (expected (v .class e j)) (below-at _ classes (v .class e j) test low))
+    choice-plain productions v e x j false asks
+    ∙ ap (λ (n : ℕ). nth x n productions) (eqb-true _ (expected (v .class e j)) (below-at _ classes (v .class e j) test low))
 
 -- Both tests of x, as one that computes. The numbers that are expected may look up what a token of a kind begins.
 unfoldable numbered : (ℕ → Bool) → Bool → ℕ → ((ℕ → ℕ → ℕ) → ℕ → ℕ) → Bool
-unfolding kindNumber implies every below asksSome asksWithin productions17 whether whetherSome
+unfolding kindNumber implies every below asksSome asksWithin productions whether whetherSome
 numbered some b x expected =
     let numbers = below (λ (c : ℕ). eqb (number17 c b x) (expected kindNumber c)) classes in
-    and (asksWithin some x productions17) numbers
+    and (asksWithin some x productions) numbers
 
 module _ (some : ℕ → Bool) (b : Bool) (x : ℕ) (expected : (ℕ → ℕ → ℕ) → ℕ → ℕ) (h : numbered some b x expected ≡ true) where
-  asks-right : asksWithin some x productions17 ≡ true
+  asks-right : asksWithin some x productions ≡ true
   unfolding numbered
-  asks-right = and-left (asksWithin some x productions17) _ h
+  asks-right = and-left (asksWithin some x productions) _ h
 
   numbers-right : below (λ (c : ℕ). eqb (number17 c b x) (expected kindNumber c)) classes ≡ true
   unfolding numbered
-  numbers-right = and-right (asksWithin some x productions17) _ h
+  numbers-right = and-right (asksWithin some x productions) _ h
 
-  number-right : (c : ℕ) → c < classes → alternative productions17 c b x ≡ expected kindAlternative c
+  number-right : (c : ℕ) → c < classes → alternative productions c b x ≡ expected kindAlternative c
   number-right c low =
       number-same c b x
       ∙ eqb-true (number17 c b x) (expected kindNumber c)
@@ -110,8 +110,8 @@ abbrev answered : ℕ → Bool → ℕ → ((ℕ → ℕ → ℕ) → ℕ → �
 answered q b x expected = numbered (λ (r : ℕ). eqb r q) b x expected
 
 -- the same production, by equal numbers
-same : (x : ℕ) {m n : ℕ} → m ≡ n → nth x m productions17 ≡ nth x n productions17
-same x h = ap (λ (n : ℕ). nth x n productions17) h
+same : (x : ℕ) {m n : ℕ} → m ≡ n → nth x m productions ≡ nth x n productions
+same x h = ap (λ (n : ℕ). nth x n productions) h
 
 -- the number of each nonterminal's alternative by the class of the token, and the test of it
 
@@ -282,6 +282,20 @@ typeParametersNumberNo look c = 2
 typeParameters-numbers-no : answered opensNames false typeParameters typeParametersNumberNo ≡ true
 unfolding numbered
 typeParameters-numbers-no = refl
+
+abbrev structParametersNumberYes : (ℕ → ℕ → ℕ) → ℕ → ℕ
+structParametersNumberYes look c = whether (eqb (kindOf c) leftBracket) 1 0
+
+structParameters-numbers-yes : answered opensStructNames true structParameters structParametersNumberYes ≡ true
+unfolding numbered
+structParameters-numbers-yes = refl
+
+abbrev structParametersNumberNo : (ℕ → ℕ → ℕ) → ℕ → ℕ
+structParametersNumberNo look c = 2
+
+structParameters-numbers-no : answered opensStructNames false structParameters structParametersNumberNo ≡ true
+unfolding numbered
+structParameters-numbers-no = refl
 
 abbrev typeArgumentsNumberYes : (ℕ → ℕ → ℕ) → ℕ → ℕ
 typeArgumentsNumberYes look c = whether (eqb (kindOf c) leftBracket) 1 0
@@ -531,147 +545,146 @@ declaration-numbers = refl
 
 -- the productions by their numbers
 
-pub type-base : nth type 1 productions17 ≡ one (rule type (row baseTypeRow) (only keyword ∷ []))
-unfolding nth productions17
+pub type-base : nth type 1 productions ≡ one (rule type (row baseTypeRow) (only keyword ∷ []))
+unfolding nth productions
 type-base = refl
 
-pub type-pointer : nth type 2 productions17 ≡ one (rule type (row pointerRow) (only star ∷ part type ∷ []))
-unfolding nth productions17
+pub type-pointer : nth type 2 productions ≡ one (rule type (row pointerRow) (only star ∷ part type ∷ []))
+unfolding nth productions
 type-pointer = refl
 
-pub type-optional : nth type 3 productions17 ≡ one (rule type (row optionalRow) (only question ∷ part type ∷ []))
-unfolding nth productions17
+pub type-optional : nth type 3 productions ≡ one (rule type (row optionalRow) (only question ∷ part type ∷ []))
+unfolding nth productions
 type-optional = refl
 
-pub type-slice : nth type 4 productions17 ≡ one (rule type (row sliceTypeRow) (only leftBracket ∷ part type ∷ []))
-unfolding nth productions17
+pub type-slice : nth type 4 productions ≡ one (rule type (row sliceTypeRow) (only leftBracket ∷ part type ∷ []))
+unfolding nth productions
 type-slice = refl
 
-pub type-result : nth type 5 productions17 ≡ one (rule type (row resultRow) (only bang ∷ part type ∷ part type ∷ []))
-unfolding nth productions17
+pub type-result : nth type 5 productions ≡ one (rule type (row resultRow) (only bang ∷ part type ∷ part type ∷ []))
+unfolding nth productions
 type-result = refl
 
-pub type-parenthesized : nth type 6 productions17 ≡ one (rule type rowOf (only leftParen ∷ part parenthesized ∷ []))
-unfolding nth productions17
+pub type-parenthesized : nth type 6 productions ≡ one (rule type rowOf (only leftParen ∷ part parenthesized ∷ []))
+unfolding nth productions
 type-parenthesized = refl
 
-pub type-named : nth type 7 productions17 ≡ one (rule type (row namedTypeRow) (token typeWord ∷ []))
-unfolding nth productions17
+pub type-named : nth type 7 productions ≡ one (rule type (row namedTypeRow) (token typeWord ∷ []))
+unfolding nth productions
 type-named = refl
 
-pub expression-literal : nth expression 1 productions17 ≡ one (rule expression noRow (part literal ∷ []))
-unfolding nth productions17
+pub expression-literal : nth expression 1 productions ≡ one (rule expression noRow (part literal ∷ []))
+unfolding nth productions
 expression-literal = refl
 
-pub expression-name : nth expression 2 productions17 ≡ one (rule expression (row nameRow) (token name ∷ []))
-unfolding nth productions17
+pub expression-name : nth expression 2 productions ≡ one (rule expression (row nameRow) (token name ∷ []))
+unfolding nth productions
 expression-name = refl
 
-pub expression-binary : nth expression 3 productions17 ≡
+pub expression-binary : nth expression 3 productions ≡
     one (rule expression (row binaryRow) (token operators ∷ part expression ∷ part expression ∷ []))
-unfolding nth productions17
+unfolding nth productions
 expression-binary = refl
 
-pub expression-not : nth expression 4 productions17 ≡ one (rule expression (row notRow) (only bang ∷ part expression ∷ []))
-unfolding nth productions17
+pub expression-not : nth expression 4 productions ≡ one (rule expression (row notRow) (only bang ∷ part expression ∷ []))
+unfolding nth productions
 expression-not = refl
 
-pub expression-return : nth expression 5 productions17 ≡ one (rule expression (row returnRow) (only caret ∷ part expression ∷ []))
-unfolding nth productions17
+pub expression-return : nth expression 5 productions ≡ one (rule expression (row returnRow) (only caret ∷ part expression ∷ []))
+unfolding nth productions
 expression-return = refl
 
-pub expression-complement : nth expression 6 productions17 ≡
-    one (rule expression (row complementRow) (only tilde ∷ part expression ∷ []))
-unfolding nth productions17
+pub expression-complement : nth expression 6 productions ≡ one (rule expression (row complementRow) (only tilde ∷ part expression ∷ []))
+unfolding nth productions
 expression-complement = refl
 
-pub expression-backslash : nth expression 7 productions17 ≡ one (rule expression rowOf (only backslash ∷ part tryOrClosure ∷ []))
-unfolding nth productions17
+pub expression-backslash : nth expression 7 productions ≡ one (rule expression rowOf (only backslash ∷ part tryOrClosure ∷ []))
+unfolding nth productions
 expression-backslash = refl
 
-pub expression-sizeof : nth expression 8 productions17 ≡ one (rule expression (row sizeofRow) (only sizeof ∷ part type ∷ []))
-unfolding nth productions17
+pub expression-sizeof : nth expression 8 productions ≡ one (rule expression (row sizeofRow) (only sizeof ∷ part type ∷ []))
+unfolding nth productions
 expression-sizeof = refl
 
-pub expression-conditional : nth expression 9 productions17 ≡
+pub expression-conditional : nth expression 9 productions ≡
     one (rule expression (row conditionalRow) (only question ∷ part expression ∷ part expression ∷ part expression ∷ []))
-unfolding nth productions17
+unfolding nth productions
 expression-conditional = refl
 
-pub expression-block : nth expression 10 productions17 ≡ one (rule expression noRow (part block ∷ []))
-unfolding nth productions17
+pub expression-block : nth expression 10 productions ≡ one (rule expression noRow (part block ∷ []))
+unfolding nth productions
 expression-block = refl
 
-pub expression-call : nth expression 11 productions17 ≡
+pub expression-call : nth expression 11 productions ≡
     one (rule expression (row callRow) (only leftParen ∷ token name ∷ part typeArguments ∷ part expressions ∷ only rightParen ∷ []))
-unfolding nth productions17
+unfolding nth productions
 expression-call = refl
 
-pub expression-slice : nth expression 12 productions17 ≡
+pub expression-slice : nth expression 12 productions ≡
     one (rule expression (row sliceRow) (only leftBracket ∷ part type ∷ only bar ∷ part expressions ∷ only rightBracket ∷ []))
-unfolding nth productions17
+unfolding nth productions
 expression-slice = refl
 
-pub expression-aggregate : nth expression 13 productions17 ≡
+pub expression-aggregate : nth expression 13 productions ≡
     one (rule expression (row aggregateRow) (only at ∷ part type ∷ only leftBrace ∷ part expressions ∷ only rightBrace ∷ []))
-unfolding nth productions17
+unfolding nth productions
 expression-aggregate = refl
 
-pub expression-member : nth expression 14 productions17 ≡
+pub expression-member : nth expression 14 productions ≡
     one (rule expression (row memberRow) (only dot ∷ part expression ∷ part expression ∷ []))
-unfolding nth productions17
+unfolding nth productions
 expression-member = refl
 
-pub expression-cast : nth expression 15 productions17 ≡ one (rule expression (row castRow) (only hash ∷ part castRest ∷ []))
-unfolding nth productions17
+pub expression-cast : nth expression 15 productions ≡ one (rule expression (row castRow) (only hash ∷ part castRest ∷ []))
+unfolding nth productions
 expression-cast = refl
 
-pub expression-match : nth expression 16 productions17 ≡
+pub expression-match : nth expression 16 productions ≡
     one (rule expression (row matchRow) (only questionQuestion ∷ part expression ∷ only leftBrace ∷ part arms ∷ only rightBrace ∷ []))
-unfolding nth productions17
+unfolding nth productions
 expression-match = refl
 
-pub statement-expression : nth statement 1 productions17 ≡ one (rule statement noRow (unless aTilde ∷ part expression ∷ []))
-unfolding nth productions17
+pub statement-expression : nth statement 1 productions ≡ one (rule statement noRow (unless aTilde ∷ part expression ∷ []))
+unfolding nth productions
 statement-expression = refl
 
-pub statement-let : nth statement 2 productions17 ≡ one (rule statement (row letRow) (only colon ∷ part mutable ∷ part binding ∷ []))
-unfolding nth productions17
+pub statement-let : nth statement 2 productions ≡ one (rule statement (row letRow) (only colon ∷ part mutable ∷ part binding ∷ []))
+unfolding nth productions
 statement-let = refl
 
-pub statement-assignment : nth statement 3 productions17 ≡ one (rule statement rowOf (only equal ∷ part assignment ∷ []))
-unfolding nth productions17
+pub statement-assignment : nth statement 3 productions ≡ one (rule statement rowOf (only equal ∷ part assignment ∷ []))
+unfolding nth productions
 statement-assignment = refl
 
-pub statement-defer : nth statement 4 productions17 ≡ one (rule statement (row deferRow) (only semicolon ∷ part block ∷ []))
-unfolding nth productions17
+pub statement-defer : nth statement 4 productions ≡ one (rule statement (row deferRow) (only semicolon ∷ part block ∷ []))
+unfolding nth productions
 statement-defer = refl
 
-pub statement-tilde : nth statement 5 productions17 ≡ one (rule statement rowOf (only tilde ∷ part tildeStatement ∷ []))
-unfolding nth productions17
+pub statement-tilde : nth statement 5 productions ≡ one (rule statement rowOf (only tilde ∷ part tildeStatement ∷ []))
+unfolding nth productions
 statement-tilde = refl
 
-pub declaration-import : nth declaration 1 productions17 ≡
+pub declaration-import : nth declaration 1 productions ≡
     one (rule declaration (row importRow) (only dollar ∷ only string ∷ part alias ∷ []))
-unfolding nth productions17
+unfolding nth productions
 declaration-import = refl
 
-pub declaration-foreign : nth declaration 2 productions17 ≡
+pub declaration-foreign : nth declaration 2 productions ≡
     one (rule declaration (row foreignRow) (only ampersand ∷ only string ∷ only at ∷ token name ∷ part fields ∷ only arrow ∷ part type ∷
     []))
-unfolding nth productions17
+unfolding nth productions
 declaration-foreign = refl
 
-pub declaration-function : nth declaration 3 productions17 ≡ one (rule declaration noRow (part function ∷ []))
-unfolding nth productions17
+pub declaration-function : nth declaration 3 productions ≡ one (rule declaration noRow (part function ∷ []))
+unfolding nth productions
 declaration-function = refl
 
-pub declaration-definition : nth declaration 4 productions17 ≡ one (rule declaration rowOf (only colon ∷ part definition ∷ []))
-unfolding nth productions17
+pub declaration-definition : nth declaration 4 productions ≡ one (rule declaration rowOf (only colon ∷ part definition ∷ []))
+unfolding nth productions
 declaration-definition = refl
 
-pub declaration-interface : nth declaration 5 productions17 ≡ one (rule declaration noRow (part interface ∷ []))
-unfolding nth productions17
+pub declaration-interface : nth declaration 5 productions ≡ one (rule declaration noRow (part interface ∷ []))
+unfolding nth productions
 declaration-interface = refl
 
 -- the token at j, of class c and kind k
@@ -683,738 +696,756 @@ module _ (v : View) (e : Names) (j : ℕ) (low : v .class e j < classes) where
   k = kindOf c
 
   plain : (x : ℕ) (expected : (ℕ → ℕ → ℕ) → ℕ → ℕ) → plainly x expected ≡ true
-      → choice productions17 v e x j ≡ nth x (expected kindAlternative c) productions17
+      → choice productions v e x j ≡ nth x (expected kindAlternative c) productions
   plain x expected h =
-      choice-plain productions17 v e x j false (asks-right (λ (r : ℕ). false) false x expected h)
+      choice-plain productions v e x j false (asks-right (λ (r : ℕ). false) false x expected h)
       ∙ same x (number-right (λ (r : ℕ). false) false x expected h c low)
 
   given : (q : ℕ) (b : Bool) (x : ℕ) (expected : (ℕ → ℕ → ℕ) → ℕ → ℕ) → answered q b x expected ≡ true → v .holds q j ≡ b
-      → choice productions17 v e x j ≡ nth x (expected kindAlternative c) productions17
+      → choice productions v e x j ≡ nth x (expected kindAlternative c) productions
   given q b x expected h answer =
-      choice-nth productions17 v e x j q (asks-right (λ (r : ℕ). eqb r q) b x expected h)
-      ∙ same x (ap (λ (t : Bool). alternative productions17 c t x) answer ∙ number-right (λ (r : ℕ). eqb r q) b x expected h c low)
+      choice-nth productions v e x j q (asks-right (λ (r : ℕ). eqb r q) b x expected h)
+      ∙ same x (ap (λ (t : Bool). alternative productions c t x) answer ∙ number-right (λ (r : ℕ). eqb r q) b x expected h c low)
 
   -- lists
 
-  declarations-at : choice productions17 v e declarations j ≡ nth declarations (declarationsNumber kindAlternative c) productions17
+  declarations-at : choice productions v e declarations j ≡ nth declarations (declarationsNumber kindAlternative c) productions
   declarations-at = plain declarations declarationsNumber declarations-numbers
 
   pub declarations-more : {a : ℕ} → kindAlternative declaration k ≡ suc a
-      → choice productions17 v e declarations j ≡ one (rule declarations noRow (part declaration ∷ part declarations ∷ []))
-  unfolding nth productions17
+      → choice productions v e declarations j ≡ one (rule declarations noRow (part declaration ∷ part declarations ∷ []))
+  unfolding nth productions
   declarations-more h = declarations-at ∙ same declarations (whether-some 1 2 h)
 
-  pub declarations-done : kindAlternative declaration k ≡ 0 → choice productions17 v e declarations j ≡ one (rule declarations noRow [])
-  unfolding nth productions17
+  pub declarations-done : kindAlternative declaration k ≡ 0 → choice productions v e declarations j ≡ one (rule declarations noRow [])
+  unfolding nth productions
   declarations-done h = declarations-at ∙ same declarations (whether-none 1 2 h)
 
-  fields-at : choice productions17 v e fields j ≡ nth fields (fieldsNumber kindAlternative c) productions17
+  fields-at : choice productions v e fields j ≡ nth fields (fieldsNumber kindAlternative c) productions
   fields-at = plain fields fieldsNumber fields-numbers
 
   pub fields-more : {a : ℕ} → kindAlternative type k ≡ suc a
-      → choice productions17 v e fields j ≡ one (rule fields noRow (part field ∷ part fields ∷ []))
-  unfolding nth productions17
+      → choice productions v e fields j ≡ one (rule fields noRow (part field ∷ part fields ∷ []))
+  unfolding nth productions
   fields-more h = fields-at ∙ same fields (whether-some 1 2 h)
 
-  pub fields-done : kindAlternative type k ≡ 0 → choice productions17 v e fields j ≡ one (rule fields noRow [])
-  unfolding nth productions17
+  pub fields-done : kindAlternative type k ≡ 0 → choice productions v e fields j ≡ one (rule fields noRow [])
+  unfolding nth productions
   fields-done h = fields-at ∙ same fields (whether-none 1 2 h)
 
-  parameters-at : choice productions17 v e parameters j ≡ nth parameters (parametersNumber kindAlternative c) productions17
+  parameters-at : choice productions v e parameters j ≡ nth parameters (parametersNumber kindAlternative c) productions
   parameters-at = plain parameters parametersNumber parameters-numbers
 
   pub parameters-more : {a : ℕ} → kindAlternative type k ≡ suc a
-      → choice productions17 v e parameters j ≡ one (rule parameters noRow (part parameter ∷ part parameters ∷ []))
-  unfolding nth productions17
+      → choice productions v e parameters j ≡ one (rule parameters noRow (part parameter ∷ part parameters ∷ []))
+  unfolding nth productions
   parameters-more h = parameters-at ∙ same parameters (whether-some 1 2 h)
 
-  pub parameters-done : kindAlternative type k ≡ 0 → choice productions17 v e parameters j ≡ one (rule parameters noRow [])
-  unfolding nth productions17
+  pub parameters-done : kindAlternative type k ≡ 0 → choice productions v e parameters j ≡ one (rule parameters noRow [])
+  unfolding nth productions
   parameters-done h = parameters-at ∙ same parameters (whether-none 1 2 h)
 
-  types-at : choice productions17 v e types j ≡ nth types (typesNumber kindAlternative c) productions17
+  types-at : choice productions v e types j ≡ nth types (typesNumber kindAlternative c) productions
   types-at = plain types typesNumber types-numbers
 
   pub types-more : {a : ℕ} → kindAlternative type k ≡ suc a
-      → choice productions17 v e types j ≡ one (rule types noRow (part type ∷ part types ∷ []))
-  unfolding nth productions17
+      → choice productions v e types j ≡ one (rule types noRow (part type ∷ part types ∷ []))
+  unfolding nth productions
   types-more h = types-at ∙ same types (whether-some 1 2 h)
 
-  pub types-done : kindAlternative type k ≡ 0 → choice productions17 v e types j ≡ one (rule types noRow [])
-  unfolding nth productions17
+  pub types-done : kindAlternative type k ≡ 0 → choice productions v e types j ≡ one (rule types noRow [])
+  unfolding nth productions
   types-done h = types-at ∙ same types (whether-none 1 2 h)
 
-  statements-at : choice productions17 v e statements j ≡ nth statements (statementsNumber kindAlternative c) productions17
+  statements-at : choice productions v e statements j ≡ nth statements (statementsNumber kindAlternative c) productions
   statements-at = plain statements statementsNumber statements-numbers
 
   pub statements-more : {a : ℕ} → kindAlternative statement k ≡ suc a
-      → choice productions17 v e statements j ≡ one (rule statements noRow (part statement ∷ part statements ∷ []))
-  unfolding nth productions17
+      → choice productions v e statements j ≡ one (rule statements noRow (part statement ∷ part statements ∷ []))
+  unfolding nth productions
   statements-more h = statements-at ∙ same statements (whether-some 1 2 h)
 
-  pub statements-done : kindAlternative statement k ≡ 0 → choice productions17 v e statements j ≡ one (rule statements noRow [])
-  unfolding nth productions17
+  pub statements-done : kindAlternative statement k ≡ 0 → choice productions v e statements j ≡ one (rule statements noRow [])
+  unfolding nth productions
   statements-done h = statements-at ∙ same statements (whether-none 1 2 h)
 
-  expressions-at : choice productions17 v e expressions j ≡ nth expressions (expressionsNumber kindAlternative c) productions17
+  expressions-at : choice productions v e expressions j ≡ nth expressions (expressionsNumber kindAlternative c) productions
   expressions-at = plain expressions expressionsNumber expressions-numbers
 
   pub expressions-more : {a : ℕ} → kindAlternative expression k ≡ suc a
-      → choice productions17 v e expressions j ≡ one (rule expressions noRow (part expression ∷ part expressions ∷ []))
-  unfolding nth productions17
+      → choice productions v e expressions j ≡ one (rule expressions noRow (part expression ∷ part expressions ∷ []))
+  unfolding nth productions
   expressions-more h = expressions-at ∙ same expressions (whether-some 1 2 h)
 
-  pub expressions-done : kindAlternative expression k ≡ 0 → choice productions17 v e expressions j ≡ one (rule expressions noRow [])
-  unfolding nth productions17
+  pub expressions-done : kindAlternative expression k ≡ 0 → choice productions v e expressions j ≡ one (rule expressions noRow [])
+  unfolding nth productions
   expressions-done h = expressions-at ∙ same expressions (whether-none 1 2 h)
 
-  arms-at : choice productions17 v e arms j ≡ nth arms (armsNumber kindAlternative c) productions17
+  arms-at : choice productions v e arms j ≡ nth arms (armsNumber kindAlternative c) productions
   arms-at = plain arms armsNumber arms-numbers
 
   pub arms-more : among (ident ∷ boolean ∷ []) k ≡ true
-      → choice productions17 v e arms j ≡ one (rule arms noRow (part arm ∷ part arms ∷ []))
-  unfolding nth productions17
+      → choice productions v e arms j ≡ one (rule arms noRow (part arm ∷ part arms ∷ []))
+  unfolding nth productions
   arms-more h = arms-at ∙ same arms (whether-true 1 2 h)
 
-  pub arms-done : among (ident ∷ boolean ∷ []) k ≡ false → choice productions17 v e arms j ≡ one (rule arms noRow [])
-  unfolding nth productions17
+  pub arms-done : among (ident ∷ boolean ∷ []) k ≡ false → choice productions v e arms j ≡ one (rule arms noRow [])
+  unfolding nth productions
   arms-done h = arms-at ∙ same arms (whether-false 1 2 h)
 
-  methods-at : choice productions17 v e methods j ≡ nth methods (methodsNumber kindAlternative c) productions17
+  methods-at : choice productions v e methods j ≡ nth methods (methodsNumber kindAlternative c) productions
   methods-at = plain methods methodsNumber methods-numbers
 
-  pub methods-more : k ≡ at → choice productions17 v e methods j ≡ one (rule methods noRow (part method ∷ part methods ∷ []))
-  unfolding nth productions17
+  pub methods-more : k ≡ at → choice productions v e methods j ≡ one (rule methods noRow (part method ∷ part methods ∷ []))
+  unfolding nth productions
   methods-more h = methods-at ∙ same methods (whether-true 1 2 (ap (λ (n : ℕ). eqb n at) h))
 
-  pub methods-done : eqb k at ≡ false → choice productions17 v e methods j ≡ one (rule methods noRow [])
-  unfolding nth productions17
+  pub methods-done : eqb k at ≡ false → choice productions v e methods j ≡ one (rule methods noRow [])
+  unfolding nth productions
   methods-done h = methods-at ∙ same methods (whether-false 1 2 h)
 
-  functions-at : choice productions17 v e functions j ≡ nth functions (functionsNumber kindAlternative c) productions17
+  functions-at : choice productions v e functions j ≡ nth functions (functionsNumber kindAlternative c) productions
   functions-at = plain functions functionsNumber functions-numbers
 
-  pub functions-more : k ≡ at → choice productions17 v e functions j ≡ one (rule functions noRow (part function ∷ part functions ∷ []))
-  unfolding nth productions17
+  pub functions-more : k ≡ at → choice productions v e functions j ≡ one (rule functions noRow (part function ∷ part functions ∷ []))
+  unfolding nth productions
   functions-more h = functions-at ∙ same functions (whether-true 1 2 (ap (λ (n : ℕ). eqb n at) h))
 
-  pub functions-done : eqb k at ≡ false → choice productions17 v e functions j ≡ one (rule functions noRow [])
-  unfolding nth productions17
+  pub functions-done : eqb k at ≡ false → choice productions v e functions j ≡ one (rule functions noRow [])
+  unfolding nth productions
   functions-done h = functions-at ∙ same functions (whether-false 1 2 h)
 
-  variants-at : choice productions17 v e variants j ≡ nth variants (variantsNumber kindAlternative c) productions17
+  variants-at : choice productions v e variants j ≡ nth variants (variantsNumber kindAlternative c) productions
   variants-at = plain variants variantsNumber variants-numbers
 
   pub variants-more : eqb c ident ≡ true
-      → choice productions17 v e variants j ≡ one (rule variants noRow (part variant ∷ part variants ∷ []))
-  unfolding nth productions17
+      → choice productions v e variants j ≡ one (rule variants noRow (part variant ∷ part variants ∷ []))
+  unfolding nth productions
   variants-more h = variants-at ∙ same variants (whether-true 1 2 h)
 
-  pub variants-done : eqb c ident ≡ false → choice productions17 v e variants j ≡ one (rule variants noRow [])
-  unfolding nth productions17
+  pub variants-done : eqb c ident ≡ false → choice productions v e variants j ≡ one (rule variants noRow [])
+  unfolding nth productions
   variants-done h = variants-at ∙ same variants (whether-false 1 2 h)
 
-  payloadTypes-at : choice productions17 v e payloadTypes j ≡ nth payloadTypes (payloadTypesNumber kindAlternative c) productions17
+  payloadTypes-at : choice productions v e payloadTypes j ≡ nth payloadTypes (payloadTypesNumber kindAlternative c) productions
   payloadTypes-at = plain payloadTypes payloadTypesNumber payloadTypes-numbers
 
   pub payloadTypes-more : {a : ℕ} → eqb c ident ≡ false → kindAlternative type k ≡ suc a
-      → choice productions17 v e payloadTypes j ≡ one (rule payloadTypes noRow (unless plainName ∷ part type ∷ part payloadTypes ∷ []))
-  unfolding nth productions17
+      → choice productions v e payloadTypes j ≡ one (rule payloadTypes noRow (unless plainName ∷ part type ∷ part payloadTypes ∷ []))
+  unfolding nth productions
   payloadTypes-more h h2 = payloadTypes-at ∙ same payloadTypes (whether-false 2 (whetherSome (kindAlternative type k) 1 2) h
       ∙ whether-some 1 2 h2)
 
-  pub payloadTypes-done-plain : eqb c ident ≡ true → choice productions17 v e payloadTypes j ≡ one (rule payloadTypes noRow [])
-  unfolding nth productions17
+  pub payloadTypes-done-plain : eqb c ident ≡ true → choice productions v e payloadTypes j ≡ one (rule payloadTypes noRow [])
+  unfolding nth productions
   payloadTypes-done-plain h = payloadTypes-at ∙ same payloadTypes (whether-true 2 (whetherSome (kindAlternative type k) 1 2) h)
 
-  payloadTypes-at-again : choice productions17 v e payloadTypes j ≡
-      nth payloadTypes (payloadTypesNumberAgain kindAlternative c) productions17
+  payloadTypes-at-again : choice productions v e payloadTypes j ≡
+      nth payloadTypes (payloadTypesNumberAgain kindAlternative c) productions
   payloadTypes-at-again = plain payloadTypes payloadTypesNumberAgain payloadTypes-numbers-again
 
-  pub payloadTypes-done : kindAlternative type k ≡ 0 → choice productions17 v e payloadTypes j ≡ one (rule payloadTypes noRow [])
-  unfolding nth productions17
+  pub payloadTypes-done : kindAlternative type k ≡ 0 → choice productions v e payloadTypes j ≡ one (rule payloadTypes noRow [])
+  unfolding nth productions
   payloadTypes-done h = payloadTypes-at-again ∙ same payloadTypes (whether-none (whether (eqb c ident) 2 1) 2 h)
 
-  moreNames-at : choice productions17 v e moreNames j ≡ nth moreNames (moreNamesNumber kindAlternative c) productions17
+  moreNames-at : choice productions v e moreNames j ≡ nth moreNames (moreNamesNumber kindAlternative c) productions
   moreNames-at = plain moreNames moreNamesNumber moreNames-numbers
 
   pub moreNames-more : among (ident ∷ boolean ∷ []) k ≡ true
-      → choice productions17 v e moreNames j ≡ one (rule moreNames noRow (token declaredWord ∷ part moreNames ∷ []))
-  unfolding nth productions17
+      → choice productions v e moreNames j ≡ one (rule moreNames noRow (token declaredWord ∷ part moreNames ∷ []))
+  unfolding nth productions
   moreNames-more h = moreNames-at ∙ same moreNames (whether-true 1 2 h)
 
-  pub moreNames-done : among (ident ∷ boolean ∷ []) k ≡ false → choice productions17 v e moreNames j ≡ one (rule moreNames noRow [])
-  unfolding nth productions17
+  pub moreNames-done : among (ident ∷ boolean ∷ []) k ≡ false → choice productions v e moreNames j ≡ one (rule moreNames noRow [])
+  unfolding nth productions
   moreNames-done h = moreNames-at ∙ same moreNames (whether-false 1 2 h)
 
-  moreWords-at : choice productions17 v e moreWords j ≡ nth moreWords (moreWordsNumber kindAlternative c) productions17
+  moreWords-at : choice productions v e moreWords j ≡ nth moreWords (moreWordsNumber kindAlternative c) productions
   moreWords-at = plain moreWords moreWordsNumber moreWords-numbers
 
   pub moreWords-more : among (ident ∷ boolean ∷ keyword ∷ []) k ≡ true
-      → choice productions17 v e moreWords j ≡ one (rule moreWords noRow (token word ∷ part moreWords ∷ []))
-  unfolding nth productions17
+      → choice productions v e moreWords j ≡ one (rule moreWords noRow (token word ∷ part moreWords ∷ []))
+  unfolding nth productions
   moreWords-more h = moreWords-at ∙ same moreWords (whether-true 1 2 h)
 
   pub moreWords-done : among (ident ∷ boolean ∷ keyword ∷ []) k ≡ false
-      → choice productions17 v e moreWords j ≡ one (rule moreWords noRow [])
-  unfolding nth productions17
+      → choice productions v e moreWords j ≡ one (rule moreWords noRow [])
+  unfolding nth productions
   moreWords-done h = moreWords-at ∙ same moreWords (whether-false 1 2 h)
 
-  payloads3-at : choice productions17 v e payloads3 j ≡ nth payloads3 (payloads3Number kindAlternative c) productions17
+  payloads3-at : choice productions v e payloads3 j ≡ nth payloads3 (payloads3Number kindAlternative c) productions
   payloads3-at = plain payloads3 payloads3Number payloads3-numbers
 
   pub payloads3-more : among (ident ∷ int ∷ []) k ≡ true
-      → choice productions17 v e payloads3 j ≡ one (rule payloads3 noRow (part payload ∷ part payloads2 ∷ []))
-  unfolding nth productions17
+      → choice productions v e payloads3 j ≡ one (rule payloads3 noRow (part payload ∷ part payloads2 ∷ []))
+  unfolding nth productions
   payloads3-more h = payloads3-at ∙ same payloads3 (whether-true 1 2 h)
 
-  pub payloads3-done : among (ident ∷ int ∷ []) k ≡ false → choice productions17 v e payloads3 j ≡ one (rule payloads3 noRow [])
-  unfolding nth productions17
+  pub payloads3-done : among (ident ∷ int ∷ []) k ≡ false → choice productions v e payloads3 j ≡ one (rule payloads3 noRow [])
+  unfolding nth productions
   payloads3-done h = payloads3-at ∙ same payloads3 (whether-false 1 2 h)
 
-  payloads2-at : choice productions17 v e payloads2 j ≡ nth payloads2 (payloads2Number kindAlternative c) productions17
+  payloads2-at : choice productions v e payloads2 j ≡ nth payloads2 (payloads2Number kindAlternative c) productions
   payloads2-at = plain payloads2 payloads2Number payloads2-numbers
 
   pub payloads2-more : among (ident ∷ int ∷ []) k ≡ true
-      → choice productions17 v e payloads2 j ≡ one (rule payloads2 noRow (part payload ∷ part payloads1 ∷ []))
-  unfolding nth productions17
+      → choice productions v e payloads2 j ≡ one (rule payloads2 noRow (part payload ∷ part payloads1 ∷ []))
+  unfolding nth productions
   payloads2-more h = payloads2-at ∙ same payloads2 (whether-true 1 2 h)
 
-  pub payloads2-done : among (ident ∷ int ∷ []) k ≡ false → choice productions17 v e payloads2 j ≡ one (rule payloads2 noRow [])
-  unfolding nth productions17
+  pub payloads2-done : among (ident ∷ int ∷ []) k ≡ false → choice productions v e payloads2 j ≡ one (rule payloads2 noRow [])
+  unfolding nth productions
   payloads2-done h = payloads2-at ∙ same payloads2 (whether-false 1 2 h)
 
-  payloads1-at : choice productions17 v e payloads1 j ≡ nth payloads1 (payloads1Number kindAlternative c) productions17
+  payloads1-at : choice productions v e payloads1 j ≡ nth payloads1 (payloads1Number kindAlternative c) productions
   payloads1-at = plain payloads1 payloads1Number payloads1-numbers
 
   pub payloads1-more : among (ident ∷ int ∷ []) k ≡ true
-      → choice productions17 v e payloads1 j ≡ one (rule payloads1 noRow (part payload ∷ []))
-  unfolding nth productions17
+      → choice productions v e payloads1 j ≡ one (rule payloads1 noRow (part payload ∷ []))
+  unfolding nth productions
   payloads1-more h = payloads1-at ∙ same payloads1 (whether-true 1 2 h)
 
-  pub payloads1-done : among (ident ∷ int ∷ []) k ≡ false → choice productions17 v e payloads1 j ≡ one (rule payloads1 noRow [])
-  unfolding nth productions17
+  pub payloads1-done : among (ident ∷ int ∷ []) k ≡ false → choice productions v e payloads1 j ≡ one (rule payloads1 noRow [])
+  unfolding nth productions
   payloads1-done h = payloads1-at ∙ same payloads1 (whether-false 1 2 h)
 
   -- what may be left out
 
-  alias-at : choice productions17 v e alias j ≡ nth alias (aliasNumber kindAlternative c) productions17
+  alias-at : choice productions v e alias j ≡ nth alias (aliasNumber kindAlternative c) productions
   alias-at = plain alias aliasNumber alias-numbers
 
-  pub alias-some : eqb k ident ≡ true → choice productions17 v e alias j ≡ one (rule alias noRow (token name ∷ []))
-  unfolding nth productions17
+  pub alias-some : eqb k ident ≡ true → choice productions v e alias j ≡ one (rule alias noRow (token name ∷ []))
+  unfolding nth productions
   alias-some h = alias-at ∙ same alias (whether-true 1 2 h)
 
-  pub alias-none : eqb k ident ≡ false → choice productions17 v e alias j ≡ one (rule alias noRow [])
-  unfolding nth productions17
+  pub alias-none : eqb k ident ≡ false → choice productions v e alias j ≡ one (rule alias noRow [])
+  unfolding nth productions
   alias-none h = alias-at ∙ same alias (whether-false 1 2 h)
 
-  fieldName-at : choice productions17 v e fieldName j ≡ nth fieldName (fieldNameNumber kindAlternative c) productions17
+  fieldName-at : choice productions v e fieldName j ≡ nth fieldName (fieldNameNumber kindAlternative c) productions
   fieldName-at = plain fieldName fieldNameNumber fieldName-numbers
 
-  pub fieldName-some : eqb k ident ≡ true → choice productions17 v e fieldName j ≡ one (rule fieldName noRow (token name ∷ []))
-  unfolding nth productions17
+  pub fieldName-some : eqb k ident ≡ true → choice productions v e fieldName j ≡ one (rule fieldName noRow (token name ∷ []))
+  unfolding nth productions
   fieldName-some h = fieldName-at ∙ same fieldName (whether-true 1 2 h)
 
-  pub fieldName-none : eqb k ident ≡ false → choice productions17 v e fieldName j ≡ one (rule fieldName noRow (unless anyName ∷ []))
-  unfolding nth productions17
+  pub fieldName-none : eqb k ident ≡ false → choice productions v e fieldName j ≡ one (rule fieldName noRow (unless anyName ∷ []))
+  unfolding nth productions
   fieldName-none h = fieldName-at ∙ same fieldName (whether-false 1 2 h)
 
-  mutable-at : choice productions17 v e mutable j ≡ nth mutable (mutableNumber kindAlternative c) productions17
+  mutable-at : choice productions v e mutable j ≡ nth mutable (mutableNumber kindAlternative c) productions
   mutable-at = plain mutable mutableNumber mutable-numbers
 
-  pub mutable-some : eqb k tilde ≡ true → choice productions17 v e mutable j ≡ one (rule mutable noRow (only tilde ∷ []))
-  unfolding nth productions17
+  pub mutable-some : eqb k tilde ≡ true → choice productions v e mutable j ≡ one (rule mutable noRow (only tilde ∷ []))
+  unfolding nth productions
   mutable-some h = mutable-at ∙ same mutable (whether-true 1 2 h)
 
-  pub mutable-none : eqb k tilde ≡ false → choice productions17 v e mutable j ≡ one (rule mutable noRow [])
-  unfolding nth productions17
+  pub mutable-none : eqb k tilde ≡ false → choice productions v e mutable j ≡ one (rule mutable noRow [])
+  unfolding nth productions
   mutable-none h = mutable-at ∙ same mutable (whether-false 1 2 h)
 
-  body-at : choice productions17 v e body j ≡ nth body (bodyNumber kindAlternative c) productions17
+  body-at : choice productions v e body j ≡ nth body (bodyNumber kindAlternative c) productions
   body-at = plain body bodyNumber body-numbers
 
-  pub body-some : eqb k leftBrace ≡ true → choice productions17 v e body j ≡ one (rule body (says functionRow) (part block ∷ []))
-  unfolding nth productions17
+  pub body-some : eqb k leftBrace ≡ true → choice productions v e body j ≡ one (rule body (says functionRow) (part block ∷ []))
+  unfolding nth productions
   body-some h = body-at ∙ same body (whether-true 1 2 h)
 
-  pub body-none : eqb k leftBrace ≡ false → choice productions17 v e body j ≡ one (rule body (says headerRow) [])
-  unfolding nth productions17
+  pub body-none : eqb k leftBrace ≡ false → choice productions v e body j ≡ one (rule body (says headerRow) [])
+  unfolding nth productions
   body-none h = body-at ∙ same body (whether-false 1 2 h)
 
-  loopOrComplement-at : choice productions17 v e loopOrComplement j ≡
-      nth loopOrComplement (loopOrComplementNumber kindAlternative c) productions17
+  loopOrComplement-at : choice productions v e loopOrComplement j ≡
+      nth loopOrComplement (loopOrComplementNumber kindAlternative c) productions
   loopOrComplement-at = plain loopOrComplement loopOrComplementNumber loopOrComplement-numbers
 
   pub loopOrComplement-some : eqb k leftBrace ≡ true
-      → choice productions17 v e loopOrComplement j ≡ one (rule loopOrComplement (says whileRow) (part block ∷ []))
-  unfolding nth productions17
+      → choice productions v e loopOrComplement j ≡ one (rule loopOrComplement (says whileRow) (part block ∷ []))
+  unfolding nth productions
   loopOrComplement-some h = loopOrComplement-at ∙ same loopOrComplement (whether-true 1 2 h)
 
   pub loopOrComplement-none : eqb k leftBrace ≡ false
-      → choice productions17 v e loopOrComplement j ≡ one (rule loopOrComplement (says complementRow) (unless aBrace ∷ []))
-  unfolding nth productions17
+      → choice productions v e loopOrComplement j ≡ one (rule loopOrComplement (says complementRow) (unless aBrace ∷ []))
+  unfolding nth productions
   loopOrComplement-none h = loopOrComplement-at ∙ same loopOrComplement (whether-false 1 2 h)
 
   -- what a question decides
 
   typeParameters-at-yes : v .holds opensNames j ≡ true
-      → choice productions17 v e typeParameters j ≡ nth typeParameters (typeParametersNumberYes kindAlternative c) productions17
+      → choice productions v e typeParameters j ≡ nth typeParameters (typeParametersNumberYes kindAlternative c) productions
   typeParameters-at-yes = given opensNames true typeParameters typeParametersNumberYes typeParameters-numbers-yes
 
   pub typeParameters-some : v .holds opensNames j ≡ true → k ≡ leftBracket
-      → choice productions17 v e typeParameters j ≡ one (rule typeParameters noRow (when (query opensNames) ∷ part nameList ∷ []))
-  unfolding nth productions17
+      → choice productions v e typeParameters j ≡ one (rule typeParameters noRow (when (query opensNames) ∷ part nameList ∷ []))
+  unfolding nth productions
   typeParameters-some answer h = typeParameters-at-yes answer
       ∙ same typeParameters (whether-true 1 0 (ap (λ (n : ℕ). eqb n leftBracket) h))
 
   typeParameters-at-no : v .holds opensNames j ≡ false
-      → choice productions17 v e typeParameters j ≡ nth typeParameters (typeParametersNumberNo kindAlternative c) productions17
+      → choice productions v e typeParameters j ≡ nth typeParameters (typeParametersNumberNo kindAlternative c) productions
   typeParameters-at-no = given opensNames false typeParameters typeParametersNumberNo typeParameters-numbers-no
 
   pub typeParameters-none : v .holds opensNames j ≡ false
-      → choice productions17 v e typeParameters j ≡ one (rule typeParameters noRow (unless (query opensNames) ∷ []))
-  unfolding nth productions17
+      → choice productions v e typeParameters j ≡ one (rule typeParameters noRow (unless (query opensNames) ∷ []))
+  unfolding nth productions
   typeParameters-none answer = typeParameters-at-no answer
 
+  structParameters-at-yes : v .holds opensStructNames j ≡ true
+      → choice productions v e structParameters j ≡ nth structParameters (structParametersNumberYes kindAlternative c) productions
+  structParameters-at-yes = given opensStructNames true structParameters structParametersNumberYes structParameters-numbers-yes
+
+  pub structParameters-some : v .holds opensStructNames j ≡ true → k ≡ leftBracket
+      → choice productions v e structParameters j ≡ one (rule structParameters noRow (when (query opensStructNames) ∷ part nameList ∷ []))
+  unfolding nth productions
+  structParameters-some answer h = structParameters-at-yes answer
+      ∙ same structParameters (whether-true 1 0 (ap (λ (n : ℕ). eqb n leftBracket) h))
+
+  structParameters-at-no : v .holds opensStructNames j ≡ false
+      → choice productions v e structParameters j ≡ nth structParameters (structParametersNumberNo kindAlternative c) productions
+  structParameters-at-no = given opensStructNames false structParameters structParametersNumberNo structParameters-numbers-no
+
+  pub structParameters-none : v .holds opensStructNames j ≡ false
+      → choice productions v e structParameters j ≡ one (rule structParameters noRow (unless (query opensStructNames) ∷ []))
+  unfolding nth productions
+  structParameters-none answer = structParameters-at-no answer
+
   typeArguments-at-yes : v .holds opensWords j ≡ true
-      → choice productions17 v e typeArguments j ≡ nth typeArguments (typeArgumentsNumberYes kindAlternative c) productions17
+      → choice productions v e typeArguments j ≡ nth typeArguments (typeArgumentsNumberYes kindAlternative c) productions
   typeArguments-at-yes = given opensWords true typeArguments typeArgumentsNumberYes typeArguments-numbers-yes
 
   pub typeArguments-some : v .holds opensWords j ≡ true → k ≡ leftBracket
-      → choice productions17 v e typeArguments j ≡ one (rule typeArguments noRow (when (query opensWords) ∷ part wordList ∷ []))
-  unfolding nth productions17
+      → choice productions v e typeArguments j ≡ one (rule typeArguments noRow (when (query opensWords) ∷ part wordList ∷ []))
+  unfolding nth productions
   typeArguments-some answer h = typeArguments-at-yes answer ∙ same typeArguments (whether-true 1 0 (ap (λ (n : ℕ). eqb n leftBracket) h))
 
   typeArguments-at-no : v .holds opensWords j ≡ false
-      → choice productions17 v e typeArguments j ≡ nth typeArguments (typeArgumentsNumberNo kindAlternative c) productions17
+      → choice productions v e typeArguments j ≡ nth typeArguments (typeArgumentsNumberNo kindAlternative c) productions
   typeArguments-at-no = given opensWords false typeArguments typeArgumentsNumberNo typeArguments-numbers-no
 
   pub typeArguments-none : v .holds opensWords j ≡ false
-      → choice productions17 v e typeArguments j ≡ one (rule typeArguments noRow (unless (query opensWords) ∷ []))
-  unfolding nth productions17
+      → choice productions v e typeArguments j ≡ one (rule typeArguments noRow (unless (query opensWords) ∷ []))
+  unfolding nth productions
   typeArguments-none answer = typeArguments-at-no answer
 
   selector-at-yes : v .holds zeroOrOne j ≡ true
-      → choice productions17 v e selector j ≡ nth selector (selectorNumberYes kindAlternative c) productions17
+      → choice productions v e selector j ≡ nth selector (selectorNumberYes kindAlternative c) productions
   selector-at-yes = given zeroOrOne true selector selectorNumberYes selector-numbers-yes
 
   pub selector-some : v .holds zeroOrOne j ≡ true → k ≡ int
-      → choice productions17 v e selector j ≡ one (rule selector noRow (when (query zeroOrOne) ∷ part literal ∷ []))
-  unfolding nth productions17 among or
+      → choice productions v e selector j ≡ one (rule selector noRow (when (query zeroOrOne) ∷ part literal ∷ []))
+  unfolding nth productions among or
   selector-some answer h = selector-at-yes answer ∙ same selector (whether-true 1 0 (ap (λ (n : ℕ). among literals n) h))
 
   selector-at-no : v .holds zeroOrOne j ≡ false
-      → choice productions17 v e selector j ≡ nth selector (selectorNumberNo kindAlternative c) productions17
+      → choice productions v e selector j ≡ nth selector (selectorNumberNo kindAlternative c) productions
   selector-at-no = given zeroOrOne false selector selectorNumberNo selector-numbers-no
 
   pub selector-none : v .holds zeroOrOne j ≡ false
-      → choice productions17 v e selector j ≡ one (rule selector noRow (unless (query zeroOrOne) ∷ []))
-  unfolding nth productions17
+      → choice productions v e selector j ≡ one (rule selector noRow (unless (query zeroOrOne) ∷ []))
+  unfolding nth productions
   selector-none answer = selector-at-no answer
 
   tildeStatement-at-yes : v .holds twoNames j ≡ true
-      → choice productions17 v e tildeStatement j ≡ nth tildeStatement (tildeStatementNumberYes kindAlternative c) productions17
+      → choice productions v e tildeStatement j ≡ nth tildeStatement (tildeStatementNumberYes kindAlternative c) productions
   tildeStatement-at-yes = given twoNames true tildeStatement tildeStatementNumberYes tildeStatement-numbers-yes
 
   pub tildeStatement-foreach : v .holds twoNames j ≡ true → k ≡ ident
-      → choice productions17 v e tildeStatement j ≡
+      → choice productions v e tildeStatement j ≡
       one (rule tildeStatement (says foreachRow) (when (query twoNames) ∷ token name ∷ part expression ∷ part block ∷ []))
-  unfolding nth productions17
+  unfolding nth productions
   tildeStatement-foreach answer h = tildeStatement-at-yes answer ∙ same tildeStatement (whether-true 1 0 (ap (λ (n : ℕ). eqb n ident) h))
 
   tildeStatement-at-no : v .holds twoNames j ≡ false
-      → choice productions17 v e tildeStatement j ≡ nth tildeStatement (tildeStatementNumberNo kindAlternative c) productions17
+      → choice productions v e tildeStatement j ≡ nth tildeStatement (tildeStatementNumberNo kindAlternative c) productions
   tildeStatement-at-no = given twoNames false tildeStatement tildeStatementNumberNo tildeStatement-numbers-no
 
   pub tildeStatement-other : {a : ℕ} → v .holds twoNames j ≡ false → kindAlternative expression k ≡ suc a
-      → choice productions17 v e tildeStatement j ≡
+      → choice productions v e tildeStatement j ≡
       one (rule tildeStatement noRow (unless (query twoNames) ∷ part expression ∷ part loopOrComplement ∷ []))
-  unfolding nth productions17
+  unfolding nth productions
   tildeStatement-other answer h = tildeStatement-at-no answer ∙ same tildeStatement (whether-some 2 0 h)
 
   pub tildeStatement-none : v .holds twoNames j ≡ false → kindAlternative expression k ≡ 0
-      → choice productions17 v e tildeStatement j ≡ none
-  unfolding nth productions17
+      → choice productions v e tildeStatement j ≡ none
+  unfolding nth productions
   tildeStatement-none answer h = tildeStatement-at-no answer ∙ same tildeStatement (whether-none 2 0 h)
 
   tryOrClosure-at-yes : v .holds opensClosure j ≡ true
-      → choice productions17 v e tryOrClosure j ≡ nth tryOrClosure (tryOrClosureNumberYes kindAlternative c) productions17
+      → choice productions v e tryOrClosure j ≡ nth tryOrClosure (tryOrClosureNumberYes kindAlternative c) productions
   tryOrClosure-at-yes = given opensClosure true tryOrClosure tryOrClosureNumberYes tryOrClosure-numbers-yes
 
   pub tryOrClosure-closure : {a : ℕ} → v .holds opensClosure j ≡ true → kindAlternative type k ≡ suc a
-      → choice productions17 v e tryOrClosure j ≡
+      → choice productions v e tryOrClosure j ≡
       one (rule tryOrClosure (says closureRow) (when (query opensClosure) ∷ part parameters ∷ only arrow ∷ part type ∷ part block ∷ []))
-  unfolding nth productions17
+  unfolding nth productions
   tryOrClosure-closure answer h = tryOrClosure-at-yes answer ∙ same tryOrClosure (whether-some 2 (whether (eqb k arrow) 2 0) h)
 
   tryOrClosure-at-yes-again : v .holds opensClosure j ≡ true
-      → choice productions17 v e tryOrClosure j ≡ nth tryOrClosure (tryOrClosureNumberYesAgain kindAlternative c) productions17
+      → choice productions v e tryOrClosure j ≡ nth tryOrClosure (tryOrClosureNumberYesAgain kindAlternative c) productions
   tryOrClosure-at-yes-again = given opensClosure true tryOrClosure tryOrClosureNumberYesAgain tryOrClosure-numbers-yes-again
 
   pub tryOrClosure-closure-arrow : v .holds opensClosure j ≡ true → k ≡ arrow
-      → choice productions17 v e tryOrClosure j ≡
+      → choice productions v e tryOrClosure j ≡
       one (rule tryOrClosure (says closureRow) (when (query opensClosure) ∷ part parameters ∷ only arrow ∷ part type ∷ part block ∷ []))
-  unfolding nth productions17
+  unfolding nth productions
   tryOrClosure-closure-arrow answer h = tryOrClosure-at-yes-again answer
       ∙ same tryOrClosure (whether-true 2 (whetherSome (kindAlternative type k) 2 0) (ap (λ (n : ℕ). eqb n arrow) h))
 
   tryOrClosure-at-no : v .holds opensClosure j ≡ false
-      → choice productions17 v e tryOrClosure j ≡ nth tryOrClosure (tryOrClosureNumberNo kindAlternative c) productions17
+      → choice productions v e tryOrClosure j ≡ nth tryOrClosure (tryOrClosureNumberNo kindAlternative c) productions
   tryOrClosure-at-no = given opensClosure false tryOrClosure tryOrClosureNumberNo tryOrClosure-numbers-no
 
   pub tryOrClosure-try : {a : ℕ} → v .holds opensClosure j ≡ false → kindAlternative expression k ≡ suc a
-      → choice productions17 v e tryOrClosure j ≡
-      one (rule tryOrClosure (says tryRow) (unless (query opensClosure) ∷ part expression ∷ []))
-  unfolding nth productions17
+      → choice productions v e tryOrClosure j ≡ one (rule tryOrClosure (says tryRow) (unless (query opensClosure) ∷ part expression ∷ []))
+  unfolding nth productions
   tryOrClosure-try answer h = tryOrClosure-at-no answer ∙ same tryOrClosure (whether-some 1 0 h)
 
   pub tryOrClosure-none : v .holds opensClosure j ≡ false → kindAlternative expression k ≡ 0
-      → choice productions17 v e tryOrClosure j ≡ none
-  unfolding nth productions17
+      → choice productions v e tryOrClosure j ≡ none
+  unfolding nth productions
   tryOrClosure-none answer h = tryOrClosure-at-no answer ∙ same tryOrClosure (whether-none 1 0 h)
 
   definition-at-yes : v .holds opensStruct j ≡ true
-      → choice productions17 v e definition j ≡ nth definition (definitionNumberYes kindAlternative c) productions17
+      → choice productions v e definition j ≡ nth definition (definitionNumberYes kindAlternative c) productions
   definition-at-yes = given opensStruct true definition definitionNumberYes definition-numbers-yes
 
   pub definition-struct : v .holds opensStruct j ≡ true → k ≡ ident
-      → choice productions17 v e definition j ≡
-      one (rule definition (says structRow) (when (query opensStruct) ∷ token name ∷ part typeParameters ∷ only leftBrace ∷ part fields ∷
-      only rightBrace ∷ []))
-  unfolding nth productions17
+      → choice productions v e definition j ≡
+      one (rule definition (says structRow) (when (query opensStruct) ∷ token name ∷ part structParameters ∷ only leftBrace ∷
+      part fields ∷ only rightBrace ∷ []))
+  unfolding nth productions
   definition-struct answer h = definition-at-yes answer
       ∙ same definition (whether-true 1 (whether (eqb k bar) 2 0) (ap (λ (n : ℕ). eqb n ident) h))
 
   definition-enum-true : v .holds opensStruct j ≡ true → k ≡ bar
-      → choice productions17 v e definition j ≡
+      → choice productions v e definition j ≡
       one (rule definition (says enumRow) (only bar ∷ token name ∷ only leftBrace ∷ part variants ∷ only rightBrace ∷ []))
-  unfolding nth productions17
+  unfolding nth productions
   definition-enum-true answer h = definition-at-yes answer
       ∙ same definition (whether-false 1 (whether (eqb k bar) 2 0) (ap (λ (n : ℕ). eqb n ident) h)
       ∙ whether-true 2 0 (ap (λ (n : ℕ). eqb n bar) h))
 
   definition-at-no : v .holds opensStruct j ≡ false
-      → choice productions17 v e definition j ≡ nth definition (definitionNumberNo kindAlternative c) productions17
+      → choice productions v e definition j ≡ nth definition (definitionNumberNo kindAlternative c) productions
   definition-at-no = given opensStruct false definition definitionNumberNo definition-numbers-no
 
   pub definition-constant : {a : ℕ} → v .holds opensStruct j ≡ false → kindAlternative type k ≡ suc a
-      → choice productions17 v e definition j ≡
+      → choice productions v e definition j ≡
       one (rule definition (says constantRow) (unless (query opensStruct) ∷ part mutable ∷ part type ∷ token name ∷ part literal ∷ []))
-  unfolding nth productions17
+  unfolding nth productions
   definition-constant answer h = definition-at-no answer
       ∙ same definition (whether-some 3 (whether (eqb k tilde) 3 (whether (eqb k bar) 2 0)) h)
 
   pub definition-none : v .holds opensStruct j ≡ false → kindAlternative type k ≡ 0 → eqb k tilde ≡ false → eqb k bar ≡ false
-      → choice productions17 v e definition j ≡ none
-  unfolding nth productions17
+      → choice productions v e definition j ≡ none
+  unfolding nth productions
   definition-none answer h h2 h3 = definition-at-no answer
       ∙ same definition (whether-none 3 (whether (eqb k tilde) 3 (whether (eqb k bar) 2 0)) h
       ∙ whether-false 3 (whether (eqb k bar) 2 0) h2 ∙ whether-false 2 0 h3)
 
   definition-at-no-again : v .holds opensStruct j ≡ false
-      → choice productions17 v e definition j ≡ nth definition (definitionNumberNoAgain kindAlternative c) productions17
+      → choice productions v e definition j ≡ nth definition (definitionNumberNoAgain kindAlternative c) productions
   definition-at-no-again = given opensStruct false definition definitionNumberNoAgain definition-numbers-no-again
 
   pub definition-constant-tilde : v .holds opensStruct j ≡ false → k ≡ tilde
-      → choice productions17 v e definition j ≡
+      → choice productions v e definition j ≡
       one (rule definition (says constantRow) (unless (query opensStruct) ∷ part mutable ∷ part type ∷ token name ∷ part literal ∷ []))
-  unfolding nth productions17
+  unfolding nth productions
   definition-constant-tilde answer h = definition-at-no-again answer
       ∙ same definition (whether-true 3 (whether (eqb k bar) 2 (whetherSome (kindAlternative type k) 3 0)) (ap (λ
       (n : ℕ). eqb n tilde) h))
 
   definition-enum-false : v .holds opensStruct j ≡ false → k ≡ bar
-      → choice productions17 v e definition j ≡
+      → choice productions v e definition j ≡
       one (rule definition (says enumRow) (only bar ∷ token name ∷ only leftBrace ∷ part variants ∷ only rightBrace ∷ []))
-  unfolding nth productions17
+  unfolding nth productions
   definition-enum-false answer h = definition-at-no-again answer
       ∙ same definition (whether-false 3 (whether (eqb k bar) 2 (whetherSome (kindAlternative type k) 3 0)) (ap (λ
       (n : ℕ). eqb n tilde) h) ∙ whether-true 2 (whetherSome (kindAlternative type k) 3 0) (ap (λ (n : ℕ). eqb n bar) h))
 
   definition-enum-by : (b : Bool) → v .holds opensStruct j ≡ b → k ≡ bar
-      → choice productions17 v e definition j ≡
+      → choice productions v e definition j ≡
       one (rule definition (says enumRow) (only bar ∷ token name ∷ only leftBrace ∷ part variants ∷ only rightBrace ∷ []))
   definition-enum-by true = definition-enum-true
   definition-enum-by false = definition-enum-false
 
   pub definition-enum : k ≡ bar
-      → choice productions17 v e definition j ≡
+      → choice productions v e definition j ≡
       one (rule definition (says enumRow) (only bar ∷ token name ∷ only leftBrace ∷ part variants ∷ only rightBrace ∷ []))
   definition-enum = definition-enum-by (v .holds opensStruct j) refl
 
   -- what the token decides
 
-  interfaceRest-at : choice productions17 v e interfaceRest j ≡ nth interfaceRest (interfaceRestNumber kindAlternative c) productions17
+  interfaceRest-at : choice productions v e interfaceRest j ≡ nth interfaceRest (interfaceRestNumber kindAlternative c) productions
   interfaceRest-at = plain interfaceRest interfaceRestNumber interfaceRest-numbers
 
   pub interfaceRest-trait : k ≡ leftBrace
-      → choice productions17 v e interfaceRest j ≡
+      → choice productions v e interfaceRest j ≡
       one (rule interfaceRest (says traitRow) (only leftBrace ∷ part methods ∷ only rightBrace ∷ []))
-  unfolding nth productions17
+  unfolding nth productions
   interfaceRest-trait h = interfaceRest-at
       ∙ same interfaceRest (whether-true 1 (whetherSome (kindAlternative type k) 2 0) (ap (λ (n : ℕ). eqb n leftBrace) h))
 
-  pub interfaceRest-none : eqb k leftBrace ≡ false → kindAlternative type k ≡ 0 → choice productions17 v e interfaceRest j ≡ none
-  unfolding nth productions17
+  pub interfaceRest-none : eqb k leftBrace ≡ false → kindAlternative type k ≡ 0 → choice productions v e interfaceRest j ≡ none
+  unfolding nth productions
   interfaceRest-none h h2 = interfaceRest-at ∙ same interfaceRest (whether-false 1 (whetherSome (kindAlternative type k) 2 0) h
       ∙ whether-none 2 0 h2)
 
-  interfaceRest-at-again : choice productions17 v e interfaceRest j ≡
-      nth interfaceRest (interfaceRestNumberAgain kindAlternative c) productions17
+  interfaceRest-at-again : choice productions v e interfaceRest j ≡
+      nth interfaceRest (interfaceRestNumberAgain kindAlternative c) productions
   interfaceRest-at-again = plain interfaceRest interfaceRestNumberAgain interfaceRest-numbers-again
 
   pub interfaceRest-impl : {a : ℕ} → kindAlternative type k ≡ suc a
-      → choice productions17 v e interfaceRest j ≡
+      → choice productions v e interfaceRest j ≡
       one (rule interfaceRest (says implRow) (part type ∷ only leftBrace ∷ part functions ∷ only rightBrace ∷ []))
-  unfolding nth productions17
+  unfolding nth productions
   interfaceRest-impl h = interfaceRest-at-again ∙ same interfaceRest (whether-some 2 (whether (eqb k leftBrace) 1 0) h)
 
-  binding-at : choice productions17 v e binding j ≡ nth binding (bindingNumber kindAlternative c) productions17
+  binding-at : choice productions v e binding j ≡ nth binding (bindingNumber kindAlternative c) productions
   binding-at = plain binding bindingNumber binding-numbers
 
   pub binding-named : eqb c ident ≡ true
-      → choice productions17 v e binding j ≡ one (rule binding noRow (when plainName ∷ token name ∷ part expression ∷ []))
-  unfolding nth productions17
+      → choice productions v e binding j ≡ one (rule binding noRow (when plainName ∷ token name ∷ part expression ∷ []))
+  unfolding nth productions
   binding-named h = binding-at ∙ same binding (whether-true 2 (whetherSome (kindAlternative type k) 1 0) h)
 
   pub binding-typed : {a : ℕ} → eqb c ident ≡ false → kindAlternative type k ≡ suc a
-      → choice productions17 v e binding j ≡ one (rule binding noRow (unless plainName ∷ part type ∷ token name ∷ part expression ∷ []))
-  unfolding nth productions17
+      → choice productions v e binding j ≡ one (rule binding noRow (unless plainName ∷ part type ∷ token name ∷ part expression ∷ []))
+  unfolding nth productions
   binding-typed h h2 = binding-at ∙ same binding (whether-false 2 (whetherSome (kindAlternative type k) 1 0) h ∙ whether-some 1 0 h2)
 
-  pub binding-none : eqb c ident ≡ false → kindAlternative type k ≡ 0 → choice productions17 v e binding j ≡ none
-  unfolding nth productions17
+  pub binding-none : eqb c ident ≡ false → kindAlternative type k ≡ 0 → choice productions v e binding j ≡ none
+  unfolding nth productions
   binding-none h h2 = binding-at ∙ same binding (whether-false 2 (whetherSome (kindAlternative type k) 1 0) h ∙ whether-none 1 0 h2)
 
-  assignment-at : choice productions17 v e assignment j ≡ nth assignment (assignmentNumber kindAlternative c) productions17
+  assignment-at : choice productions v e assignment j ≡ nth assignment (assignmentNumber kindAlternative c) productions
   assignment-at = plain assignment assignmentNumber assignment-numbers
 
   pub assignment-setName : k ≡ ident
-      → choice productions17 v e assignment j ≡ one (rule assignment (says setNameRow) (token name ∷ part expression ∷ []))
-  unfolding nth productions17
+      → choice productions v e assignment j ≡ one (rule assignment (says setNameRow) (token name ∷ part expression ∷ []))
+  unfolding nth productions
   assignment-setName h = assignment-at ∙ same assignment (whether-true 1 (whether (eqb k dot) 2 0) (ap (λ (n : ℕ). eqb n ident) h))
 
   pub assignment-setElement : k ≡ dot
-      → choice productions17 v e assignment j ≡
+      → choice productions v e assignment j ≡
       one (rule assignment (says setElementRow) (only dot ∷ part expression ∷ part expression ∷ part expression ∷ []))
-  unfolding nth productions17
+  unfolding nth productions
   assignment-setElement h = assignment-at ∙ same assignment (whether-false 1 (whether (eqb k dot) 2 0) (ap (λ (n : ℕ). eqb n ident) h)
       ∙ whether-true 2 0 (ap (λ (n : ℕ). eqb n dot) h))
 
-  pub assignment-none : eqb k ident ≡ false → eqb k dot ≡ false → choice productions17 v e assignment j ≡ none
-  unfolding nth productions17
+  pub assignment-none : eqb k ident ≡ false → eqb k dot ≡ false → choice productions v e assignment j ≡ none
+  unfolding nth productions
   assignment-none h h2 = assignment-at ∙ same assignment (whether-false 1 (whether (eqb k dot) 2 0) h ∙ whether-false 2 0 h2)
 
-  castRest-at : choice productions17 v e castRest j ≡ nth castRest (castRestNumber kindAlternative c) productions17
+  castRest-at : choice productions v e castRest j ≡ nth castRest (castRestNumber kindAlternative c) productions
   castRest-at = plain castRest castRestNumber castRest-numbers
 
   pub castRest-pointer : k ≡ star
-      → choice productions17 v e castRest j ≡ one (rule castRest noRow (when aStar ∷ part type ∷ part expression ∷ part selector ∷ []))
-  unfolding nth productions17
+      → choice productions v e castRest j ≡ one (rule castRest noRow (when aStar ∷ part type ∷ part expression ∷ part selector ∷ []))
+  unfolding nth productions
   castRest-pointer h = castRest-at
       ∙ same castRest (whether-true 1 (whetherSome (kindAlternative type k) 2 0) (ap (λ (n : ℕ). eqb n star) h))
 
   pub castRest-other : {a : ℕ} → eqb k star ≡ false → kindAlternative type k ≡ suc a
-      → choice productions17 v e castRest j ≡ one (rule castRest noRow (unless aStar ∷ part type ∷ part expression ∷ []))
-  unfolding nth productions17
+      → choice productions v e castRest j ≡ one (rule castRest noRow (unless aStar ∷ part type ∷ part expression ∷ []))
+  unfolding nth productions
   castRest-other h h2 = castRest-at ∙ same castRest (whether-false 1 (whetherSome (kindAlternative type k) 2 0) h ∙ whether-some 2 0 h2)
 
-  pub castRest-none : eqb k star ≡ false → kindAlternative type k ≡ 0 → choice productions17 v e castRest j ≡ none
-  unfolding nth productions17
+  pub castRest-none : eqb k star ≡ false → kindAlternative type k ≡ 0 → choice productions v e castRest j ≡ none
+  unfolding nth productions
   castRest-none h h2 = castRest-at ∙ same castRest (whether-false 1 (whetherSome (kindAlternative type k) 2 0) h ∙ whether-none 2 0 h2)
 
-  parenthesized-at : choice productions17 v e parenthesized j ≡ nth parenthesized (parenthesizedNumber kindAlternative c) productions17
+  parenthesized-at : choice productions v e parenthesized j ≡ nth parenthesized (parenthesizedNumber kindAlternative c) productions
   parenthesized-at = plain parenthesized parenthesizedNumber parenthesized-numbers
 
   pub parenthesized-functionType : k ≡ at
-      → choice productions17 v e parenthesized j ≡
+      → choice productions v e parenthesized j ≡
       one (rule parenthesized (says functionTypeRow) (only at ∷ part type ∷ part types ∷ only rightParen ∷ []))
-  unfolding nth productions17
+  unfolding nth productions
   parenthesized-functionType h = parenthesized-at
       ∙ same parenthesized (whether-true 1 (whether (eqb k ident) 2 0) (ap (λ (n : ℕ). eqb n at) h))
 
   pub parenthesized-instance : k ≡ ident
-      → choice productions17 v e parenthesized j ≡
+      → choice productions v e parenthesized j ≡
       one (rule parenthesized (says instanceRow) (token name ∷ token word ∷ part moreWords ∷ only rightParen ∷ []))
-  unfolding nth productions17
+  unfolding nth productions
   parenthesized-instance h = parenthesized-at
       ∙ same parenthesized (whether-false 1 (whether (eqb k ident) 2 0) (ap (λ (n : ℕ). eqb n at) h)
       ∙ whether-true 2 0 (ap (λ (n : ℕ). eqb n ident) h))
 
-  pub parenthesized-none : eqb k at ≡ false → eqb k ident ≡ false → choice productions17 v e parenthesized j ≡ none
-  unfolding nth productions17
+  pub parenthesized-none : eqb k at ≡ false → eqb k ident ≡ false → choice productions v e parenthesized j ≡ none
+  unfolding nth productions
   parenthesized-none h h2 = parenthesized-at ∙ same parenthesized (whether-false 1 (whether (eqb k ident) 2 0) h ∙ whether-false 2 0 h2)
 
   -- what has one alternative
 
-  program-at : choice productions17 v e program j ≡ nth program (programNumber kindAlternative c) productions17
+  program-at : choice productions v e program j ≡ nth program (programNumber kindAlternative c) productions
   program-at = plain program programNumber program-numbers
 
-  pub program-one : choice productions17 v e program j ≡ one (rule program (row programRow) (part declarations ∷ []))
-  unfolding nth productions17
+  pub program-one : choice productions v e program j ≡ one (rule program (row programRow) (part declarations ∷ []))
+  unfolding nth productions
   program-one = program-at
 
-  block-at : choice productions17 v e block j ≡ nth block (blockNumber kindAlternative c) productions17
+  block-at : choice productions v e block j ≡ nth block (blockNumber kindAlternative c) productions
   block-at = plain block blockNumber block-numbers
 
   pub block-one : k ≡ leftBrace
-      → choice productions17 v e block j ≡ one (rule block (row blockRow) (only leftBrace ∷ part statements ∷ only rightBrace ∷ []))
-  unfolding nth productions17
+      → choice productions v e block j ≡ one (rule block (row blockRow) (only leftBrace ∷ part statements ∷ only rightBrace ∷ []))
+  unfolding nth productions
   block-one h = block-at ∙ same block (whether-true 1 0 (ap (λ (n : ℕ). eqb n leftBrace) h))
 
-  pub block-none : eqb k leftBrace ≡ false → choice productions17 v e block j ≡ none
-  unfolding nth productions17
+  pub block-none : eqb k leftBrace ≡ false → choice productions v e block j ≡ none
+  unfolding nth productions
   block-none h = block-at ∙ same block (whether-false 1 0 h)
 
-  literal-at : choice productions17 v e literal j ≡ nth literal (literalNumber kindAlternative c) productions17
+  literal-at : choice productions v e literal j ≡ nth literal (literalNumber kindAlternative c) productions
   literal-at = plain literal literalNumber literal-numbers
 
   pub literal-one : among literals k ≡ true
-      → choice productions17 v e literal j ≡ one (rule literal (row literalRow) (token literals ∷ []))
-  unfolding nth productions17
+      → choice productions v e literal j ≡ one (rule literal (row literalRow) (token literals ∷ []))
+  unfolding nth productions
   literal-one h = literal-at ∙ same literal (whether-true 1 0 h)
 
-  pub literal-none : among literals k ≡ false → choice productions17 v e literal j ≡ none
-  unfolding nth productions17
+  pub literal-none : among literals k ≡ false → choice productions v e literal j ≡ none
+  unfolding nth productions
   literal-none h = literal-at ∙ same literal (whether-false 1 0 h)
 
-  payload-at : choice productions17 v e payload j ≡ nth payload (payloadNumber kindAlternative c) productions17
+  payload-at : choice productions v e payload j ≡ nth payload (payloadNumber kindAlternative c) productions
   payload-at = plain payload payloadNumber payload-numbers
 
   pub payload-one : among (ident ∷ int ∷ []) k ≡ true
-      → choice productions17 v e payload j ≡ one (rule payload (row payloadRow) (token payloadToken ∷ []))
-  unfolding nth productions17
+      → choice productions v e payload j ≡ one (rule payload (row payloadRow) (token payloadToken ∷ []))
+  unfolding nth productions
   payload-one h = payload-at ∙ same payload (whether-true 1 0 h)
 
-  pub payload-none : among (ident ∷ int ∷ []) k ≡ false → choice productions17 v e payload j ≡ none
-  unfolding nth productions17
+  pub payload-none : among (ident ∷ int ∷ []) k ≡ false → choice productions v e payload j ≡ none
+  unfolding nth productions
   payload-none h = payload-at ∙ same payload (whether-false 1 0 h)
 
-  parameter-at : choice productions17 v e parameter j ≡ nth parameter (parameterNumber kindAlternative c) productions17
+  parameter-at : choice productions v e parameter j ≡ nth parameter (parameterNumber kindAlternative c) productions
   parameter-at = plain parameter parameterNumber parameter-numbers
 
   pub parameter-one : {a : ℕ} → kindAlternative type k ≡ suc a
-      → choice productions17 v e parameter j ≡ one (rule parameter (row parameterRow) (part type ∷ token name ∷ []))
-  unfolding nth productions17
+      → choice productions v e parameter j ≡ one (rule parameter (row parameterRow) (part type ∷ token name ∷ []))
+  unfolding nth productions
   parameter-one h = parameter-at ∙ same parameter (whether-some 1 0 h)
 
-  pub parameter-none : kindAlternative type k ≡ 0 → choice productions17 v e parameter j ≡ none
-  unfolding nth productions17
+  pub parameter-none : kindAlternative type k ≡ 0 → choice productions v e parameter j ≡ none
+  unfolding nth productions
   parameter-none h = parameter-at ∙ same parameter (whether-none 1 0 h)
 
-  field-at : choice productions17 v e field j ≡ nth field (fieldNumber kindAlternative c) productions17
+  field-at : choice productions v e field j ≡ nth field (fieldNumber kindAlternative c) productions
   field-at = plain field fieldNumber field-numbers
 
   pub field-one : {a : ℕ} → kindAlternative type k ≡ suc a
-      → choice productions17 v e field j ≡ one (rule field (row parameterRow) (part type ∷ part fieldName ∷ []))
-  unfolding nth productions17
+      → choice productions v e field j ≡ one (rule field (row parameterRow) (part type ∷ part fieldName ∷ []))
+  unfolding nth productions
   field-one h = field-at ∙ same field (whether-some 1 0 h)
 
-  pub field-none : kindAlternative type k ≡ 0 → choice productions17 v e field j ≡ none
-  unfolding nth productions17
+  pub field-none : kindAlternative type k ≡ 0 → choice productions v e field j ≡ none
+  unfolding nth productions
   field-none h = field-at ∙ same field (whether-none 1 0 h)
 
-  arm-at : choice productions17 v e arm j ≡ nth arm (armNumber kindAlternative c) productions17
+  arm-at : choice productions v e arm j ≡ nth arm (armNumber kindAlternative c) productions
   arm-at = plain arm armNumber arm-numbers
 
   pub arm-one : among (ident ∷ boolean ∷ []) k ≡ true
-      → choice productions17 v e arm j ≡ one (rule arm (row armRow) (token armHead ∷ part payloads3 ∷ only arrow ∷ part expression ∷ []))
-  unfolding nth productions17
+      → choice productions v e arm j ≡ one (rule arm (row armRow) (token armHead ∷ part payloads3 ∷ only arrow ∷ part expression ∷ []))
+  unfolding nth productions
   arm-one h = arm-at ∙ same arm (whether-true 1 0 h)
 
-  pub arm-none : among (ident ∷ boolean ∷ []) k ≡ false → choice productions17 v e arm j ≡ none
-  unfolding nth productions17
+  pub arm-none : among (ident ∷ boolean ∷ []) k ≡ false → choice productions v e arm j ≡ none
+  unfolding nth productions
   arm-none h = arm-at ∙ same arm (whether-false 1 0 h)
 
-  function-at : choice productions17 v e function j ≡ nth function (functionNumber kindAlternative c) productions17
+  function-at : choice productions v e function j ≡ nth function (functionNumber kindAlternative c) productions
   function-at = plain function functionNumber function-numbers
 
   pub function-one : k ≡ at
-      → choice productions17 v e function j ≡
+      → choice productions v e function j ≡
       one (rule function (row functionRow) (only at ∷ token name ∷ part typeParameters ∷ part parameters ∷ only arrow ∷ part type ∷
       part block ∷ []))
-  unfolding nth productions17
+  unfolding nth productions
   function-one h = function-at ∙ same function (whether-true 1 0 (ap (λ (n : ℕ). eqb n at) h))
 
-  pub function-none : eqb k at ≡ false → choice productions17 v e function j ≡ none
-  unfolding nth productions17
+  pub function-none : eqb k at ≡ false → choice productions v e function j ≡ none
+  unfolding nth productions
   function-none h = function-at ∙ same function (whether-false 1 0 h)
 
-  method-at : choice productions17 v e method j ≡ nth method (methodNumber kindAlternative c) productions17
+  method-at : choice productions v e method j ≡ nth method (methodNumber kindAlternative c) productions
   method-at = plain method methodNumber method-numbers
 
   pub method-one : k ≡ at
-      → choice productions17 v e method j ≡
+      → choice productions v e method j ≡
       one (rule method rowOf (only at ∷ token name ∷ part typeParameters ∷ part parameters ∷ only arrow ∷ part type ∷ part body ∷ []))
-  unfolding nth productions17
+  unfolding nth productions
   method-one h = method-at ∙ same method (whether-true 1 0 (ap (λ (n : ℕ). eqb n at) h))
 
-  pub method-none : eqb k at ≡ false → choice productions17 v e method j ≡ none
-  unfolding nth productions17
+  pub method-none : eqb k at ≡ false → choice productions v e method j ≡ none
+  unfolding nth productions
   method-none h = method-at ∙ same method (whether-false 1 0 h)
 
-  variant-at : choice productions17 v e variant j ≡ nth variant (variantNumber kindAlternative c) productions17
+  variant-at : choice productions v e variant j ≡ nth variant (variantNumber kindAlternative c) productions
   variant-at = plain variant variantNumber variant-numbers
 
   pub variant-one : eqb c ident ≡ true
-      → choice productions17 v e variant j ≡ one (rule variant (row variantRow) (when plainName ∷ token name ∷ part payloadTypes ∷ []))
-  unfolding nth productions17
+      → choice productions v e variant j ≡ one (rule variant (row variantRow) (when plainName ∷ token name ∷ part payloadTypes ∷ []))
+  unfolding nth productions
   variant-one h = variant-at ∙ same variant (whether-true 1 0 h)
 
-  pub variant-none : eqb c ident ≡ false → choice productions17 v e variant j ≡ none
-  unfolding nth productions17
+  pub variant-none : eqb c ident ≡ false → choice productions v e variant j ≡ none
+  unfolding nth productions
   variant-none h = variant-at ∙ same variant (whether-false 1 0 h)
 
-  nameList-at : choice productions17 v e nameList j ≡ nth nameList (nameListNumber kindAlternative c) productions17
+  nameList-at : choice productions v e nameList j ≡ nth nameList (nameListNumber kindAlternative c) productions
   nameList-at = plain nameList nameListNumber nameList-numbers
 
   pub nameList-one : k ≡ leftBracket
-      → choice productions17 v e nameList j ≡
+      → choice productions v e nameList j ≡
       one (rule nameList (row listRow) (only leftBracket ∷ token declaredWord ∷ part moreNames ∷ only rightBracket ∷ []))
-  unfolding nth productions17
+  unfolding nth productions
   nameList-one h = nameList-at ∙ same nameList (whether-true 1 0 (ap (λ (n : ℕ). eqb n leftBracket) h))
 
-  pub nameList-none : eqb k leftBracket ≡ false → choice productions17 v e nameList j ≡ none
-  unfolding nth productions17
+  pub nameList-none : eqb k leftBracket ≡ false → choice productions v e nameList j ≡ none
+  unfolding nth productions
   nameList-none h = nameList-at ∙ same nameList (whether-false 1 0 h)
 
-  wordList-at : choice productions17 v e wordList j ≡ nth wordList (wordListNumber kindAlternative c) productions17
+  wordList-at : choice productions v e wordList j ≡ nth wordList (wordListNumber kindAlternative c) productions
   wordList-at = plain wordList wordListNumber wordList-numbers
 
   pub wordList-one : k ≡ leftBracket
-      → choice productions17 v e wordList j ≡
+      → choice productions v e wordList j ≡
       one (rule wordList (row listRow) (only leftBracket ∷ token word ∷ part moreWords ∷ only rightBracket ∷ []))
-  unfolding nth productions17
+  unfolding nth productions
   wordList-one h = wordList-at ∙ same wordList (whether-true 1 0 (ap (λ (n : ℕ). eqb n leftBracket) h))
 
-  pub wordList-none : eqb k leftBracket ≡ false → choice productions17 v e wordList j ≡ none
-  unfolding nth productions17
+  pub wordList-none : eqb k leftBracket ≡ false → choice productions v e wordList j ≡ none
+  unfolding nth productions
   wordList-none h = wordList-at ∙ same wordList (whether-false 1 0 h)
 
-  interface-at : choice productions17 v e interface j ≡ nth interface (interfaceNumber kindAlternative c) productions17
+  interface-at : choice productions v e interface j ≡ nth interface (interfaceNumber kindAlternative c) productions
   interface-at = plain interface interfaceNumber interface-numbers
 
   pub interface-one : k ≡ percent
-      → choice productions17 v e interface j ≡
+      → choice productions v e interface j ≡
       one (rule interface rowOf (only percent ∷ token name ∷ part typeParameters ∷ part interfaceRest ∷ []))
-  unfolding nth productions17
+  unfolding nth productions
   interface-one h = interface-at ∙ same interface (whether-true 1 0 (ap (λ (n : ℕ). eqb n percent) h))
 
-  pub interface-none : eqb k percent ≡ false → choice productions17 v e interface j ≡ none
-  unfolding nth productions17
+  pub interface-none : eqb k percent ≡ false → choice productions v e interface j ≡ none
+  unfolding nth productions
   interface-none h = interface-at ∙ same interface (whether-false 1 0 h)
 
   -- what is looked up
 
-  pub type-at : choice productions17 v e type j ≡ nth type (kindAlternative type k) productions17
+  pub type-at : choice productions v e type j ≡ nth type (kindAlternative type k) productions
   type-at = plain type typeNumber type-numbers
 
-  pub expression-at : choice productions17 v e expression j ≡ nth expression (kindAlternative expression k) productions17
+  pub expression-at : choice productions v e expression j ≡ nth expression (kindAlternative expression k) productions
   expression-at = plain expression expressionNumber expression-numbers
 
-  pub statement-at : choice productions17 v e statement j ≡ nth statement (kindAlternative statement k) productions17
+  pub statement-at : choice productions v e statement j ≡ nth statement (kindAlternative statement k) productions
   statement-at = plain statement statementNumber statement-numbers
 
-  pub declaration-at : choice productions17 v e declaration j ≡ nth declaration (kindAlternative declaration k) productions17
+  pub declaration-at : choice productions v e declaration j ≡ nth declaration (kindAlternative declaration k) productions
   declaration-at = plain declaration declarationNumber declaration-numbers

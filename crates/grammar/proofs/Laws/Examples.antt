@@ -13,7 +13,7 @@ use Rattle.grammar.specs.Rows.{made, passed, firstSaid, levels}
 use Rattle.grammar.specs.First.{allows, skips, starts, anyOf, emptyWithin, firstWithin, empty, first, canBegin, canSkip}
 use Rattle.grammar.specs.Reading.{ready, find, orElse, choice, onward, descend, enter, joined, readWithin, breadth, reading}
 use Rattle.grammar.specs.Questions.{isText, runOf, fits, fitsOne, answerTo}
-use Rattle.grammar.specs.Nurl.{questions17, productions17}
+use Rattle.grammar.specs.Nurl.{questions17, productions}
 use Rattle.grammar.specs.Languages.{classOf, view}
 use Rattle.grammar.specs.Sources.{readTokens}
 use Rattle.grammar.specs.TreeTable.{treeRows, placed, cleared}
@@ -25,7 +25,7 @@ unfoldable pub answersTo : Example → Result
 unfolding and or same asName sameName twoColons tokenRows filled scans push split entries isIdent isName firstBad checked itemOf
     items isNamed enumName structName deeper namesAt declared typeNames among agrees asked met made passed firstSaid levels
     allows skips starts anyOf emptyWithin firstWithin empty first canBegin canSkip ready find orElse choice onward descend enter
-    joined readWithin breadth reading isText runOf fits fitsOne answerTo questions17 productions17 classOf view treeRows
+    joined readWithin breadth reading isText runOf fits fitsOne answerTo questions17 productions classOf view treeRows
     placed cleared readTokens judged scannedTokens checkedNames verdict result answered lentTokens lentRows
 answersTo x = answer17 (x .source) (x .names) lentTokens lentRows
 

@@ -23,12 +23,12 @@ use Rattle.grammar.specs.Nonterminals.{functions, function, definition, 
 use Rattle.grammar.specs.Nonterminals.{variants, variant, payloadTypes, typeParameters, nameList, moreNames, block, statements}
 use Rattle.grammar.specs.Nonterminals.{statement, binding, assignment, tildeStatement, loopOrComplement, expressions, expression}
 use Rattle.grammar.specs.Nonterminals.{literal, tryOrClosure, typeArguments, wordList, moreWords, castRest, selector, arms, arm}
-use Rattle.grammar.specs.Nonterminals.{payloads3, payloads2, payloads1, payload, types, type, parenthesized}
+use Rattle.grammar.specs.Nonterminals.{payloads3, payloads2, payloads1, payload, types, type, parenthesized, structParameters}
 use Rattle.grammar.specs.Classes.{name, declaredWord, word, typeWord, armHead, payloadToken, literals, operators}
 use Rattle.grammar.specs.First.{allows, skips, starts, anyOf}
 use Rattle.grammar.specs.Reading.{ready}
 use Rattle.grammar.specs.Nurl.{one, rule, plainName, anyName, aTilde, aBrace, aStar, opensNames, opensWords, opensStruct}
-use Rattle.grammar.specs.Nurl.{twoNames, opensClosure, zeroOrOne, productions17}
+use Rattle.grammar.specs.Nurl.{twoNames, opensClosure, zeroOrOne, opensStructNames, productions}
 use Rattle.grammar.specs.Alternatives.{numberOf, numberElse, alternative, kindAlternative}
 use Rattle.grammar.proofs.Laws.Groups.{ofPart, emptyBy, firstBy, alternativeBy, alternative-same, same-values, listed, listed-at}
 
@@ -58,7 +58,7 @@ groupList =
     rule functions noRow [] ∷ []) ∷
     (rule function (row functionRow) (one at ∷ token name ∷ part typeParameters ∷ part parameters ∷ one arrow ∷ part type ∷ part block ∷
     []) ∷ []) ∷
-    (rule definition (says structRow) (when (query opensStruct) ∷ token name ∷ part typeParameters ∷ one leftBrace ∷ part fields ∷
+    (rule definition (says structRow) (when (query opensStruct) ∷ token name ∷ part structParameters ∷ one leftBrace ∷ part fields ∷
     one rightBrace ∷ []) ∷
     rule definition (says enumRow) (one bar ∷ token name ∷ one leftBrace ∷ part variants ∷ one rightBrace ∷ []) ∷
     rule definition (says constantRow) (unless (query opensStruct) ∷ part mutable ∷ part type ∷ token name ∷ part literal ∷ []) ∷ []) ∷
@@ -149,41 +149,43 @@ groupList =
     rule type (row namedTypeRow) (token typeWord ∷ []) ∷ []) ∷
     (rule parenthesized (says functionTypeRow) (one at ∷ part type ∷ part types ∷ one rightParen ∷ []) ∷
     rule parenthesized (says instanceRow) (token name ∷ token word ∷ part moreWords ∷ one rightParen ∷ []) ∷ []) ∷
+    (rule structParameters noRow (when (query opensStructNames) ∷ part nameList ∷ []) ∷
+    rule structParameters noRow (unless (query opensStructNames) ∷ []) ∷ []) ∷
     []
 
 -- the productions of a nonterminal
 unfoldable pub groups17 : ℕ → List Production
 groups17 x =
     let own = getD groupList x [] in
-    let others = ofPart x productions17 in
-    pick (ltb x 50) own others
+    let others = ofPart x productions in
+    pick (ltb x 51) own others
 
-group-list : listed (λ (x : ℕ). ofPart x productions17) 0 50 ≡ groupList
-unfolding ofPart productions17 groupList
+group-list : listed (λ (x : ℕ). ofPart x productions) 0 51 ≡ groupList
+unfolding ofPart productions groupList
 group-list = refl
 
-grouped-by : (x : ℕ) (t : Bool) → ltb x 50 ≡ t
-    → ofPart x productions17 ≡ pick t (getD groupList x []) (ofPart x productions17)
+grouped-by : (x : ℕ) (t : Bool) → ltb x 51 ≡ t
+    → ofPart x productions ≡ pick t (getD groupList x []) (ofPart x productions)
 grouped-by x true s =
-    sym (listed-at (λ (y : ℕ). ofPart y productions17) 50 x (ltb-true x 50 s))
+    sym (listed-at (λ (y : ℕ). ofPart y productions) 51 x (ltb-true x 51 s))
     ∙ ap (λ (groups : List (List Production)). getD groups x []) group-list
 grouped-by x false s = refl
 
-grouped17 : (x : ℕ) → ofPart x productions17 ≡ groups17 x
+grouped17 : (x : ℕ) → ofPart x productions ≡ groups17 x
 unfolding groups17
-grouped17 x = grouped-by x (ltb x 50) refl
+grouped17 x = grouped-by x (ltb x 51) refl
 
-count17 : length productions17 ≡ 111
-unfolding productions17
+count17 : length productions ≡ 113
+unfolding productions
 count17 = refl
 
 -- the alternative of a nonterminal
 abbrev pub number17 : ℕ → Bool → ℕ → ℕ
-number17 c b x = alternativeBy groups17 111 c b x
+number17 c b x = alternativeBy groups17 113 c b x
 
-pub number-same : (c : ℕ) (b : Bool) (x : ℕ) → alternative productions17 c b x ≡ number17 c b x
+pub number-same : (c : ℕ) (b : Bool) (x : ℕ) → alternative productions c b x ≡ number17 c b x
 number-same c b x =
-    alternative-same groups17 productions17 grouped17 c b x ∙ ap (λ (n : ℕ). alternativeBy groups17 n c b x) count17
+    alternative-same groups17 productions grouped17 c b x ∙ ap (λ (n : ℕ). alternativeBy groups17 n c b x) count17
 
 -- .. that a token of a kind begins; to unfold it opens all that it computes with
 unfoldable pub kindNumber : ℕ → ℕ → ℕ

@@ -15,8 +15,9 @@ use Rattle.grammar.specs.First.{allows, skips, starts, anyOf, emptyWithi
 use Rattle.grammar.specs.Classes.{typeName}
 use Rattle.grammar.specs.Nonterminals.{definition, fieldName, variant, payloadTypes, typeParameters, statement, binding}
 use Rattle.grammar.specs.Nonterminals.{tildeStatement, loopOrComplement, tryOrClosure, typeArguments, castRest, selector}
+use Rattle.grammar.specs.Nonterminals.{structParameters}
 use Rattle.grammar.specs.Nurl.{plainName, anyName, aTilde, aBrace, aStar, opensNames, opensWords, opensStruct, twoNames}
-use Rattle.grammar.specs.Nurl.{opensClosure, zeroOrOne, productions17}
+use Rattle.grammar.specs.Nurl.{opensClosure, zeroOrOne, opensStructNames, productions}
 use Rattle.grammar.proofs.Laws.Checks.{implies, every, may, flows, followClosed, live, asks, opposed, excludes, exclusive}
 use Rattle.grammar.proofs.Laws.Table17.{hints17}
 
@@ -34,6 +35,8 @@ needed =
     -- rule 2
     without typeParameters (when (query opensNames)) leftBracket ∷
     without typeParameters (unless (query opensNames)) leftBracket ∷
+    without structParameters (when (query opensStructNames)) leftBracket ∷
+    without structParameters (unless (query opensStructNames)) leftBracket ∷
     without typeArguments (when (query opensWords)) leftBracket ∷
     without typeArguments (unless (query opensWords)) leftBracket ∷
     -- rule 3
@@ -105,15 +108,15 @@ passes g c = and (every (followClosed g hints17 c) g) (exclusive g hints17 c g)
 -- one production has the condition, and the table without it does not pass
 unfoldable pub isNeeded : Needed → Bool
 isNeeded n =
-    let g = table (n .of) (n .drops) productions17 in
-    and (eqb (changed (n .of) (n .drops) productions17) 1) (agrees false (passes g (n .before)))
+    let g = table (n .of) (n .drops) productions in
+    and (eqb (changed (n .of) (n .drops) productions) 1) (agrees false (passes g (n .before)))
 
 unfoldable pub allNeeded : List Needed → Bool
 allNeeded [] = true
 allNeeded (n ∷ ns) = and (isNeeded n) (allNeeded ns)
 
 pub needed17 : allNeeded needed ≡ true
-unfolding and or among same agrees allows skips starts anyOf emptyWithin firstWithin empty first canBegin canSkip productions17 implies
+unfolding and or among same agrees allows skips starts anyOf emptyWithin firstWithin empty first canBegin canSkip productions implies
     every may flows followClosed live asks opposed excludes exclusive hints17 sameCondition isOne is bare begins table changed
     passes isNeeded allNeeded
 needed17 = refl
@@ -129,6 +132,6 @@ unfoldable pub allConditions : List Production → ℕ
 allConditions [] = 0
 allConditions (p ∷ ps) = conditions (p .right) + allConditions ps
 
-pub all-listed : allConditions productions17 ≡ length needed
-unfolding productions17 conditions allConditions
+pub all-listed : allConditions productions ≡ length needed
+unfolding productions conditions allConditions
 all-listed = refl

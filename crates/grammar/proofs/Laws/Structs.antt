@@ -11,16 +11,16 @@ use borrow.Author.Tests.{eqb-true, eq-eqb, ne-eqb}
 use Rattle.lexer.specs.Tests.{and, or, pick, among}
 use Rattle.lexer.specs.Kinds.{ident, leftBrace, leftBracket, lastKind}
 use Rattle.lexer.proofs.Laws.Tests.{or-false, and-left, or-left, or-right}
-use Rattle.typenames.specs.TypeNames.{Item, isNamed}
+use Rattle.typenames.specs.TypeNames.{Item, opening17, isNamed}
 use Rattle.grammar.specs.Grammars.{query, Symbol, token, part, condition, when, unless, row, noRow, Production, Names}
 use Rattle.grammar.specs.Grammars.{View, agrees, asked, met}
 use Rattle.grammar.specs.Rows.{Row}
 use Rattle.grammar.specs.Derivations.{Has, here, there, Derives, end, taken, held, entered}
 use Rattle.grammar.specs.RowKinds.{namedTypeRow}
-use Rattle.grammar.specs.Nonterminals.{mutable, typeParameters, nameList, type}
+use Rattle.grammar.specs.Nonterminals.{mutable, nameList, type, structParameters}
 use Rattle.grammar.specs.Classes.{typeName, name, typeWord}
 use Rattle.grammar.specs.Questions.{oneOf, fits, fitsOne, answerTo}
-use Rattle.grammar.specs.Nurl.{one, rule, opensNames, opensStruct, questions17, productions17}
+use Rattle.grammar.specs.Nurl.{one, rule, opensStruct, opensStructNames, questions17, productions}
 use Rattle.grammar.specs.Languages.{language17, noItem, classOf, view}
 use Rattle.grammar.proofs.Laws.Views.{Kinds, kinds-none, kinds-more}
 use Rattle.grammar.proofs.Laws.Patterns.{among-one, fits-at}
@@ -75,12 +75,12 @@ atName (part x ∷ ss) = true
 atName (condition b q ∷ ss) = true
 
 -- there `mutable` has only its empty production and `type` only the named type
-mutable17 : those mutable atName productions17 ≡ rule mutable noRow [] ∷ []
-unfolding and or among productions17 those atName
+mutable17 : those mutable atName productions ≡ rule mutable noRow [] ∷ []
+unfolding and or among productions those atName
 mutable17 = refl
 
-type17 : those type atName productions17 ≡ rule type (row namedTypeRow) (token typeWord ∷ []) ∷ []
-unfolding and or among productions17 those atName
+type17 : those type atName productions ≡ rule type (row namedTypeRow) (token typeWord ∷ []) ∷ []
+unfolding and or among productions those atName
 type17 = refl
 
 none-taken : {g : List Production} {v : View} {e : Names} {n i j said : ℕ} {p : Production} {rows : List Row}
@@ -91,18 +91,15 @@ one-taken : {g : List Production} {v : View} {e : Names} {n i j said : ℕ} {p :
     → Has (rule type (row namedTypeRow) (token typeWord ∷ []) ∷ []) p → Derives g v e n (p .right) i j rows said → j ≡ suc i
 one-taken here (taken h end) = refl
 
--- the productions of `typeParameters`
+-- the productions of `structParameters`
 abbrev lists : List Production
 lists =
-    rule typeParameters noRow (when (query opensNames) ∷ part nameList ∷ []) ∷
-    rule typeParameters noRow (unless (query opensNames) ∷ []) ∷ []
+    rule structParameters noRow (when (query opensStructNames) ∷ part nameList ∷ []) ∷
+    rule structParameters noRow (unless (query opensStructNames) ∷ []) ∷ []
 
-lists17 : those typeParameters (λ ss. true) productions17 ≡ lists
-unfolding and productions17 those
+lists17 : those structParameters (λ ss. true) productions ≡ lists
+unfolding and productions those
 lists17 = refl
-
-abbrev opening : List ℕ
-opening = leftBrace ∷ leftBracket ∷ []
 
 module _ (ts : List Item) where
   abbrev kindAt : ℕ → ℕ
@@ -118,43 +115,43 @@ module _ (ts : List Item) where
   at-name (entered has left level inner rest) k = refl
 
   -- what the questions ask
-  names-open : (i : ℕ) → view language17 ts .holds opensNames i ≡ true → kindAt i ≡ leftBracket
+  names-open : (i : ℕ) → view language17 ts .holds opensStructNames i ≡ true → kindAt i ≡ leftBracket
   unfolding view answerTo questions17 fitsOne among or
   names-open i h =
       among-one leftBracket (kindAt i) (and-left _ _ (sym (fits-at (leftBracket ∷ []) _ ts i refl) ∙ sym (or-false _) ∙ h))
 
   struct-opens : (i : ℕ)
-      → view language17 ts .holds opensStruct i ≡ and (among (ident ∷ []) (kindAt i)) (and (among opening (kindAt (suc i))) true)
+      → view language17 ts .holds opensStruct i ≡ and (among (ident ∷ []) (kindAt i)) (and (among opening17 (kindAt (suc i))) true)
   unfolding view answerTo questions17 fitsOne fits among or
   struct-opens i =
-      or-false _ ∙ fits-at (ident ∷ []) (oneOf opening ∷ []) ts i refl ∙ ap (and _) (fits-at opening [] ts (suc i) refl)
+      or-false _ ∙ fits-at (ident ∷ []) (oneOf opening17 ∷ []) ts i refl ∙ ap (and _) (fits-at opening17 [] ts (suc i) refl)
 
-  -- type parameters before a `{` begin with `[` or are nothing
+  -- a struct's list before a `{` begin with `[` or are nothing
   list-opens : {g : List Production} {e : Names} {n i j said : ℕ} {p : Production} {rows : List Row} → Has lists p
-      → Derives g (view language17 ts) e n (p .right) i j rows said → kindAt j ≡ leftBrace → among opening (kindAt i) ≡ true
+      → Derives g (view language17 ts) e n (p .right) i j rows said → kindAt j ≡ leftBrace → among opening17 (kindAt i) ≡ true
   unfolding view among or met asked agrees
   list-opens here (held {i = i} h d) brace = rw (names-open i h)
   list-opens (there here) (held h end) brace = rw brace
 
   -- a struct
   pub struct-asked : Kinds ts → {e : Names} {n i j said : ℕ} {ss : List Symbol} {rows : List Row}
-      → Derives productions17 (view language17 ts) e n (token name ∷ part typeParameters ∷ one leftBrace ∷ ss) i j rows said
+      → Derives productions (view language17 ts) e n (token name ∷ part structParameters ∷ one leftBrace ∷ ss) i j rows said
       → view language17 ts .holds opensStruct i ≡ true
   unfolding view and among or
   struct-asked kinds (taken {e = e} {i = i} h (entered {j = j} has left level inner (taken b d))) =
-      let list = rw lists17 at (has-those typeParameters (λ ss. true) has left refl) in
+      let list = rw lists17 at (has-those structParameters (λ ss. true) has left refl) in
       let opens = list-opens list inner (brace-kind e (getD ts j noItem) b) in
       rw (struct-opens i, name-kind e (getD ts i noItem) (kind-below kinds i) h, opens)
 
   -- a constant: if its first token is an IDENT, so is the second
   pub constant-asked : Kinds ts → {e : Names} {n i j said : ℕ} {ss : List Symbol} {rows : List Row}
-      → Derives productions17 (view language17 ts) e n (part mutable ∷ part type ∷ token name ∷ ss) i j rows said
+      → Derives productions (view language17 ts) e n (part mutable ∷ part type ∷ token name ∷ ss) i j rows said
       → view language17 ts .holds opensStruct i ≡ false
   unfolding view and among or
   constant-asked kinds (entered {e = e} {i = i} m left level first (entered {j = k} t also deep second (taken h d))) =
       struct-opens i ∙ cases (among (ident ∷ []) (kindAt i)) refl
     where
-      cases : (b : Bool) → among (ident ∷ []) (kindAt i) ≡ b → and b (and (among opening (kindAt (suc i))) true) ≡ false
+      cases : (b : Bool) → among (ident ∷ []) (kindAt i) ≡ b → and b (and (among opening17 (kindAt (suc i))) true) ≡ false
       cases true a =
           let front = among-one ident (kindAt i) a in
           let none = none-taken (rw mutable17 at (has-those mutable atName m left (at-name first front))) first in

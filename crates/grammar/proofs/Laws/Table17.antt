@@ -20,8 +20,8 @@ use Rattle.grammar.specs.Nonterminals.{functions, definition, mutable, f
 use Rattle.grammar.specs.Nonterminals.{fieldName, typeParameters, moreNames, statements, loopOrComplement, expressions}
 use Rattle.grammar.specs.Nonterminals.{typeArguments, moreWords, selector, arms, payloads3, payloads2, payloads1, types, type}
 use Rattle.grammar.specs.Nonterminals.{interfaceRest, field, parameter, statement, binding, tildeStatement, expression}
-use Rattle.grammar.specs.Nonterminals.{tryOrClosure, castRest, assignment, parenthesized}
-use Rattle.grammar.specs.Nurl.{productions17}
+use Rattle.grammar.specs.Nonterminals.{tryOrClosure, castRest, assignment, parenthesized, structParameters}
+use Rattle.grammar.specs.Nurl.{productions}
 use Rattle.grammar.specs.Languages.{language17, view}
 use Rattle.typenames.specs.TypeNames.{Item}
 use Rattle.grammar.proofs.Laws.Checks.{Hints, implies, every, may, firstClosed, emptyClosed, flows, followClosed, live, asks}
@@ -85,8 +85,8 @@ unfolding among
 weightOf x =
     pick (among (statements ∷ tryOrClosure ∷ []) x) 5
     (pick (among (program ∷ definition ∷ statement ∷ tildeStatement ∷ []) x) 4
-    (pick (among (declarations ∷ fields ∷ parameters ∷ variants ∷ payloadTypes ∷ typeParameters ∷ binding ∷ expressions ∷
-    typeArguments ∷ castRest ∷ selector ∷ []) x) 3
+    (pick (among (declarations ∷ fields ∷ parameters ∷ variants ∷ payloadTypes ∷ typeParameters ∷ structParameters ∷ binding ∷
+    expressions ∷ typeArguments ∷ castRest ∷ selector ∷ []) x) 3
     (pick (among (declaration ∷ interfaceRest ∷ methods ∷ body ∷ functions ∷ field ∷ fieldName ∷ parameter ∷ variant ∷
     loopOrComplement ∷ expression ∷ arms ∷ payloads3 ∷ payloads2 ∷ payloads1 ∷ types ∷ []) x) 2 1)))
 
@@ -96,8 +96,8 @@ hints17 = record {
   follow = follow followed;
   nullable = among (
       program ∷ declarations ∷ alias ∷ methods ∷ body ∷ functions ∷ mutable ∷ fields ∷ fieldName ∷ parameters ∷ variants ∷
-      payloadTypes ∷ typeParameters ∷ moreNames ∷ statements ∷ loopOrComplement ∷ expressions ∷ typeArguments ∷ moreWords ∷
-      selector ∷ arms ∷ payloads3 ∷ payloads2 ∷ payloads1 ∷ types ∷ []);
+      payloadTypes ∷ typeParameters ∷ structParameters ∷ moreNames ∷ statements ∷ loopOrComplement ∷ expressions ∷ typeArguments ∷
+      moreWords ∷ selector ∷ arms ∷ payloads3 ∷ payloads2 ∷ payloads1 ∷ types ∷ []);
   weight = weightOf;
   -- a type has a row less than two for each token, the program one more
   fewer = λ x. pick (eqb x type) 1 0;
@@ -109,63 +109,63 @@ hints17 = record {
 }
 
 -- FIRST is closed
-firsts17 : below (λ (c : ℕ). every (firstClosed productions17 c) productions17) classes ≡ true
-unfolding and or among agrees allows skips starts anyOf emptyWithin firstWithin empty first canBegin productions17 implies every
+firsts17 : below (λ (c : ℕ). every (firstClosed productions c) productions) classes ≡ true
+unfolding and or among agrees allows skips starts anyOf emptyWithin firstWithin empty first canBegin productions implies every
     firstClosed below
 firsts17 = refl
 
-empties17 : below (λ (c : ℕ). every (emptyClosed productions17 c) productions17) classes ≡ true
-unfolding and or among agrees allows skips anyOf emptyWithin empty canSkip productions17 implies every emptyClosed below
+empties17 : below (λ (c : ℕ). every (emptyClosed productions c) productions) classes ≡ true
+unfolding and or among agrees allows skips anyOf emptyWithin empty canSkip productions implies every emptyClosed below
 empties17 = refl
 
 -- FOLLOW is closed
-follows17 : below (λ (c : ℕ). every (followClosed productions17 hints17 c) productions17) classes ≡ true
-unfolding and or among agrees allows skips starts anyOf emptyWithin firstWithin empty first productions17 implies every may flows
+follows17 : below (λ (c : ℕ). every (followClosed productions hints17 c) productions) classes ≡ true
+unfolding and or among agrees allows skips starts anyOf emptyWithin firstWithin empty first productions implies every may flows
     followClosed below hints17 follow
 follows17 = refl
 
 -- the alternatives exclude each other
-exclude17 : below (λ (c : ℕ). exclusive productions17 hints17 c productions17) classes ≡ true
-unfolding and or among agrees allows skips starts anyOf emptyWithin firstWithin empty first canBegin canSkip productions17 implies
+exclude17 : below (λ (c : ℕ). exclusive productions hints17 c productions) classes ≡ true
+unfolding and or among agrees allows skips starts anyOf emptyWithin firstWithin empty first canBegin canSkip productions implies
     every live asks opposed excludes exclusive below hints17 follow
 exclude17 = refl
 
 -- no left recursion
-falls17 : every (falls hints17 (suc (breadth productions17))) productions17 ≡ true
-unfolding and or among agrees breadth productions17 implies every noEnd vanishes needs bounded falls hints17 weightOf
+falls17 : every (falls hints17 (suc (breadth productions))) productions ≡ true
+unfolding and or among agrees breadth productions implies every noEnd vanishes needs bounded falls hints17 weightOf
 falls17 = refl
 
-start17 : bounded hints17 (suc (breadth productions17)) (whole program) ≡ true
-unfolding and or among breadth productions17 needs bounded hints17 weightOf
+start17 : bounded hints17 (suc (breadth productions)) (whole program) ≡ true
+unfolding and or among breadth productions needs bounded hints17 weightOf
 start17 = refl
 
 -- at most two rows for each token
-fewRows17 : every (fewRows hints17) productions17 ≡ true
-unfolding and levels productions17 every fewerOf moreOf fewRows hints17
+fewRows17 : every (fewRows hints17) productions ≡ true
+unfolding and levels productions every fewerOf moreOf fewRows hints17
 fewRows17 = refl
 
 -- the kinds of rows are from 1 to 46
-knownKinds17 : every (knownKind hints17 (hints17 .lastKind)) productions17 ≡ true
-unfolding and or between among agrees productions17 implies every voiced kindWithin knownKind hints17
+knownKinds17 : every (knownKind hints17 (hints17 .lastKind)) productions ≡ true
+unfolding and or between among agrees productions implies every voiced kindWithin knownKind hints17
 knownKinds17 = refl
 
 -- the top row is the program's
-tops17 : every (tops program (hints17 .topKind)) productions17 ≡ true
-unfolding and productions17 implies every makesRow tops hints17
+tops17 : every (tops program (hints17 .topKind)) productions ≡ true
+unfolding and productions implies every makesRow tops hints17
 tops17 = refl
 
 -- a row but the program's calls for a token
-early17 : every (beforeEnd productions17 program) productions17 ≡ true
-unfolding and or among agrees allows skips starts anyOf emptyWithin firstWithin empty first canBegin canSkip levels productions17
+early17 : every (beforeEnd productions program) productions ≡ true
+unfolding and or among agrees allows skips starts anyOf emptyWithin firstWithin empty first canBegin canSkip levels productions
     implies every beforeEnd
 early17 = refl
 
 -- no production derives a program
-apart17 : every (λ (p : Production). without program (p .right)) productions17 ≡ true
-unfolding and agrees productions17 every without
+apart17 : every (λ (p : Production). without program (p .right)) productions ≡ true
+unfolding and agrees productions every without
 apart17 = refl
 
-pub passes17 : Passes productions17 hints17 classes program
+pub passes17 : Passes productions hints17 classes program
 unfolding hints17 follow among or
 passes17 = record {
   closed = record { firsts = firsts17; empties = empties17; follows = follows17; exclude = exclude17 };

@@ -24,7 +24,7 @@ use Rattle.grammar.specs.Grammars.{Names, View}
 use Rattle.grammar.specs.Rows.{Row}
 use Rattle.grammar.specs.Reading.{Outcome, ok, stuck, deep, spent, whole}
 use Rattle.grammar.specs.Nonterminals.{program}
-use Rattle.grammar.specs.Nurl.{productions17}
+use Rattle.grammar.specs.Nurl.{productions}
 use Rattle.grammar.specs.Languages.{language17}
 use Rattle.grammar.specs.Sources.{viewOf, namesOf, readTokens}
 use Rattle.grammar.specs.TreeTable.{treeRoom, cleared}
@@ -45,11 +45,11 @@ use Rattle.nurl.specs.Results.{treeResult}
 module _ (v : View) (count : ℕ) (e : Names) (n : ℕ) (table after : List ℕ) where
   pub record ReadTo (to needed : ℕ) : Type 0 where
     row-list : List Row
-    gives : Gives productions17 v e n (whole program) 0 (ok to row-list 0)
+    gives : Gives productions v e n (whole program) 0 (ok to row-list 0)
     enough : needed ≡ length row-list
     put-there : after ≡ put 0 row-list table
 
-  read-to : (from to : Step) → Reads productions17 v count e n 0 1 (whole program) from table to after → from ≡ Read 0 0
+  read-to : (from to : Step) → Reads productions v count e n 0 1 (whole program) from table to after → from ≡ Read 0 0
       → (j k : ℕ) → to ≡ Read j k → ReadTo j k
   read-to from to (read {i} {r} {j} {k} {rows} g size there a b c) start x y goal =
       let at : i ≡ 0 = cc in
@@ -58,7 +58,7 @@ module _ (v : View) (count : ℕ) (e : Names) (n : ℕ) (table after : List ℕ)
       let much : k ≡ y = cc in
       record {
         row-list = rows;
-        gives = rw (← far) (subst (λ (i : ℕ). Gives productions17 v e n (whole program) i (ok j rows 0)) at g);
+        gives = rw (← far) (subst (λ (i : ℕ). Gives productions v e n (whole program) i (ok j rows 0)) at g);
         enough = omega arith;
         put-there = there ∙ ap (λ (r : ℕ). put r rows table) row;
       }
@@ -69,22 +69,22 @@ module _ (v : View) (count : ℕ) (e : Names) (n : ℕ) (table after : List ℕ)
   -- .. or what it refuses
   abbrev StoppedAt : ℕ → ℕ → Type 0
   StoppedAt number place =
-      ((number ≡ 6) × (Gives productions17 v e n (whole program) 0 (stuck place)))
-      ⊎ ((number ≡ 7) × (Gives productions17 v e n (whole program) 0 (deep place)))
+      ((number ≡ 6) × (Gives productions v e n (whole program) 0 (stuck place)))
+      ⊎ ((number ≡ 7) × (Gives productions v e n (whole program) 0 (deep place)))
 
-  stopped-at : (from to : Step) → Reads productions17 v count e n 0 1 (whole program) from table to after → from ≡ Read 0 0
+  stopped-at : (from to : Step) → Reads productions v count e n 0 1 (whole program) from table to after → from ≡ Read 0 0
       → (number place : ℕ) → to ≡ Step.Refused number place → StoppedAt number place
   stopped-at from to (read g size there a b c) start number place goal = let z : _≡_ {A = ℕ} 0 1 = cc in absurd (omega arith)
   stopped-at from to (refused6 {i} {r} {place} g l) start number where-to goal =
       let at : i ≡ 0 = cc in
       let far : place ≡ where-to = cc in
       let six : number ≡ 6 = cc in
-      inl (six, rw (← far) (subst (λ (i : ℕ). Gives productions17 v e n (whole program) i (stuck place)) at g))
+      inl (six, rw (← far) (subst (λ (i : ℕ). Gives productions v e n (whole program) i (stuck place)) at g))
   stopped-at from to (refused7 {i} {r} {place} g l) start number where-to goal =
       let at : i ≡ 0 = cc in
       let far : place ≡ where-to = cc in
       let seven : number ≡ 7 = cc in
-      inr (seven, rw (← far) (subst (λ (i : ℕ). Gives productions17 v e n (whole program) i (deep place)) at g))
+      inr (seven, rw (← far) (subst (λ (i : ℕ). Gives productions v e n (whole program) i (deep place)) at g))
   stopped-at from to (passed l) start number place goal = let z : _≡_ {A = ℕ} 0 1 = cc in absurd (omega arith)
 
 -- a part that was lent comes back with its length, at the front
@@ -134,7 +134,7 @@ module _ (source names tokens : List ℕ) (short : length source ≤ sourceLimit
     e = namesOf language17 source names (rowsOf tokens)
 
     -- what the reader gives is the reading of the tokens
-    reads : (o : Outcome) → Gives productions17 v e levelLimit (whole program) 0 o → (o ≡ spent → ⊥)
+    reads : (o : Outcome) → Gives productions v e levelLimit (whole program) 0 o → (o ≡ spent → ⊥)
         → readTokens language17 levelLimit source names (rowsOf tokens) ≡ o
     reads o g some = read-from language17 fit17 source names (rowsOf tokens) scans (0 + g .fuel) levelLimit o (g .reads 0) some
 
@@ -160,9 +160,9 @@ module _ (source names tokens : List ℕ) (short : length source ≤ sourceLimit
     module _ (prepared : List ℕ) (named : preparedNames opening17 prepared (items source (rowsOf tokens)) ≡ e) (step : Step)
         (whole-reads : ReadsWhole source prepared tokens Program levelLimit rows step after)
       where
-        in-names : Reads productions17 v (tokenRoom tokens) e levelLimit 0 1 (whole program) (Read 0 0) rows step after
+        in-names : Reads productions v (tokenRoom tokens) e levelLimit 0 1 (whole program) (Read 0 0) rows step after
         in-names =
-            subst (λ (f : Names). Reads productions17 v (tokenRoom tokens) f levelLimit 0 1 (whole program) (Read 0 0) rows step after)
+            subst (λ (f : Names). Reads productions v (tokenRoom tokens) f levelLimit 0 1 (whole program) (Read 0 0) rows step after)
             named whole-reads
 
         read-rows : (count needed : ℕ) → step ≡ Read count needed → ReadTo v (tokenRoom tokens) e levelLimit rows after count needed
@@ -193,8 +193,8 @@ module _ (source names tokens : List ℕ) (short : length source ≤ sourceLimit
         refused-rows number place h clear =
             cases (stopped-at v (tokenRoom tokens) e levelLimit rows after (Read 0 0) step in-names refl number place h)
           where
-            cases : ((number ≡ 6) × (Gives productions17 v e levelLimit (whole program) 0 (stuck place)))
-                ⊎ ((number ≡ 7) × (Gives productions17 v e levelLimit (whole program) 0 (deep place)))
+            cases : ((number ≡ 6) × (Gives productions v e levelLimit (whole program) 0 (stuck place)))
+                ⊎ ((number ≡ 7) × (Gives productions v e levelLimit (whole program) 0 (deep place)))
                 → (Refused number place ≡ treeResult source names tokens rows .answer) × (after ≡ treeResult source names tokens rows .rows)
             cases (inl (six, g)) =
                 let said = reads (stuck place) g (λ (z : stuck place ≡ spent). let q : _≡_ {A = ℕ} 0 1 = cc in omega arith) in

@@ -16,7 +16,7 @@ use Rattle.grammar.specs.RowKinds.{importRow, foreignRow, functionRow}
 use Rattle.grammar.specs.Nonterminals.{declarations, declaration, interface, interfaceRest, function, fields, typeParameters}
 use Rattle.grammar.specs.Nonterminals.{parameters, type, block}
 use Rattle.grammar.specs.Classes.{name}
-use Rattle.grammar.specs.Nurl.{rule, productions17}
+use Rattle.grammar.specs.Nurl.{rule, productions}
 use Rattle.grammar.specs.Nurl.{one as only}
 use Rattle.grammar.specs.Languages.{language17}
 use Rattle.grammar.specs.Sources.{viewOf}
@@ -76,18 +76,18 @@ module _ (source tokens : List ℕ) (good : Tokens tokens) (e : Names) where
   v = viewOf language17 source (rowsOf tokens)
 
   abbrev Under : ℕ → ℕ → ℕ → Makes → ℕ → List Symbol → Step → List ℕ → Step → List ℕ → Type 0
-  Under x n below m least ss = After productions17 v (tokenRoom tokens) e n below m least 0 (part x ∷ []) ss
+  Under x n below m least ss = After productions v (tokenRoom tokens) e n below m least 0 (part x ∷ []) ss
 
   abbrev Part : ℕ → ℕ → ℕ → Step → List ℕ → Step → List ℕ → Type 0
-  Part n least x = Reads productions17 v (tokenRoom tokens) e n least 0 (part x ∷ [])
+  Part n least x = Reads productions v (tokenRoom tokens) e n least 0 (part x ∷ [])
 
   declaration-choice : (j : ℕ)
-      → choice productions17 v e declaration j ≡ nth declaration (kindAlternative declaration (kindOf (v .class e j))) productions17
+      → choice productions v e declaration j ≡ nth declaration (kindAlternative declaration (kindOf (v .class e j))) productions
   declaration-choice j = declaration-at v e j (class-low source tokens good e j)
 
   -- an alternative that makes a row is begun with its token
   pub declaration-begun : {n below : ℕ} (number : ℕ) {m : Makes} {cs : List ℕ} {ss : List Symbol} {s s₀ : Step} {t : List ℕ}
-      → nth declaration number productions17 ≡ one (rule declaration m (token cs ∷ ss)) → Begins declaration number cs
+      → nth declaration number productions ≡ one (rule declaration m (token cs ∷ ss)) → Begins declaration number cs
       → kindAlternative declaration (nextKind tokens s) ≡ number → Within tokens 1 s → n ≡ suc below → levels m ≡ 1
       → s₀ ≡ opened s → Under declaration n below m 1 ss s t s₀ t
   declaration-begun number is opens = begun-at source tokens good e declaration-choice is opens
@@ -127,13 +127,13 @@ module _ (source tokens : List ℕ) (good : Tokens tokens) (e : Names) where
   -- .. and every declaration
   pub declaration-deep : {n : ℕ} (s : Step) {t : List ℕ} → (kindAlternative declaration (nextKind tokens s) ≡ 0 → ⊥)
       → Within tokens 1 s → n ≡ 0 → Part n 1 declaration s t (refusedAt 7 s) t
-  unfolding rowed levels nth productions17
+  unfolding rowed levels nth productions
   declaration-deep {n} s {t} some within spent = by (kindAlternative declaration (nextKind tokens s)) refl
     where
       rows : (number : ℕ) → kindAlternative declaration (nextKind tokens s) ≡ number
-          → rowed (nth declaration number productions17) ≡ true → Part n 1 declaration s t (refusedAt 7 s) t
+          → rowed (nth declaration number productions) ≡ true → Part n 1 declaration s t (refusedAt 7 s) t
       rows number is makes =
-          row-deep source tokens good e s (nth declaration number productions17) spent makes
+          row-deep source tokens good e s (nth declaration number productions) spent makes
           (alternative-is source tokens good e declaration declaration-choice s is)
 
       by : (number : ℕ) → kindAlternative declaration (nextKind tokens s) ≡ number → Part n 1 declaration s t (refusedAt 7 s) t
@@ -166,23 +166,23 @@ module _ (source tokens : List ℕ) (good : Tokens tokens) (e : Names) where
       let fixed = names-fixed source tokens good e in
       let a₀ = declaration-begun 2 declaration-foreign declaration-foreign-begins begins within level refl to₀ in
       let a₂ = took-mark source tokens good e at (took-mark source tokens good e string a₀ refl to₁) refl to₂ in
-      let a₄ = went productions17 v tokens e fixed (took-name source tokens good e a₂ to₃) d₄ in
-      went productions17 v tokens e fixed (took-mark source tokens good e arrow a₄ refl to₅) d₆
+      let a₄ = went productions v tokens e fixed (took-name source tokens good e a₂ to₃) d₄ in
+      went productions v tokens e fixed (took-mark source tokens good e arrow a₄ refl to₅) d₆
 
   -- as many declarations as there are
   pub declarations-go : {n below least more : ℕ} {m : Makes} {ts ss : List Symbol} {s s' s'' : Step} {t t' t'' : List ℕ}
-      → After productions17 v (tokenRoom tokens) e n below m least more ts (part declarations ∷ ss) s t s' t'
+      → After productions v (tokenRoom tokens) e n below m least more ts (part declarations ∷ ss) s t s' t'
       → begins declaration tokens s' ≡ true → Part below 1 declaration s' t' s'' t''
-      → After productions17 v (tokenRoom tokens) e n below m least more ts (part declarations ∷ ss) s t s'' t''
+      → After productions v (tokenRoom tokens) e n below m least more ts (part declarations ∷ ss) s t s'' t''
   declarations-go {s' = s'} a is =
-      list-more productions17 v tokens e (names-fixed source tokens good e) a (λ (j k : ℕ) (read : s' ≡ Read j k).
+      list-more productions v tokens e (names-fixed source tokens good e) a (λ (j k : ℕ) (read : s' ≡ Read j k).
       declarations-more v e j (class-low source tokens good e j)
       (begins-there source tokens good e declaration s' is j k read))
 
   pub declarations-end : {n below least more : ℕ} {m : Makes} {ts ss : List Symbol} {s s' : Step} {t t' : List ℕ}
-      → After productions17 v (tokenRoom tokens) e n below m least more ts (part declarations ∷ ss) s t s' t'
-      → begins declaration tokens s' ≡ false → After productions17 v (tokenRoom tokens) e n below m least more ts ss s t s' t'
+      → After productions v (tokenRoom tokens) e n below m least more ts (part declarations ∷ ss) s t s' t'
+      → begins declaration tokens s' ≡ false → After productions v (tokenRoom tokens) e n below m least more ts ss s t s' t'
   declarations-end {s' = s'} a is =
-      list-done productions17 v tokens e (names-fixed source tokens good e) a (λ (j k : ℕ) (read : s' ≡ Read j k).
+      list-done productions v tokens e (names-fixed source tokens good e) a (λ (j k : ℕ) (read : s' ≡ Read j k).
       declarations-done v e j (class-low source tokens good e j)
       (none-there source tokens good e declaration s' is j k read))

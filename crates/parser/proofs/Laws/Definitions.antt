@@ -17,9 +17,9 @@ use Rattle.grammar.specs.Rows.{levels}
 use Rattle.grammar.specs.Reading.{one, choice}
 use Rattle.grammar.specs.RowKinds.{structRow, enumRow, constantRow, variantRow}
 use Rattle.grammar.specs.Nonterminals.{declaration, definition, mutable, fields, variants, variant, payloadTypes, typeParameters}
-use Rattle.grammar.specs.Nonterminals.{literal, type}
+use Rattle.grammar.specs.Nonterminals.{literal, type, structParameters}
 use Rattle.grammar.specs.Classes.{name}
-use Rattle.grammar.specs.Nurl.{rule, productions17, opensStruct, plainName}
+use Rattle.grammar.specs.Nurl.{rule, productions, opensStruct, plainName}
 use Rattle.grammar.specs.Nurl.{one as only}
 use Rattle.grammar.specs.Languages.{language17}
 use Rattle.grammar.specs.Sources.{viewOf}
@@ -41,6 +41,7 @@ use Rattle.parser.proofs.Laws.Readers.{taken-fewer}
 use Rattle.parser.proofs.Laws.Readers.{reached, begins-some, begins-none, kind-room, mark-marks, took-mark, took-name, spoken-by}
 use Rattle.parser.proofs.Laws.Openings.{no-type, declaration-definition-begins}
 use Rattle.parser.proofs.Laws.Questions.{struct-opens, plain-next, plain-class}
+use Rattle.parser.proofs.Laws.Lists.{struct-list}
 use Rattle.parser.proofs.Laws.Loops.{begins-kind}
 use Rattle.parser.proofs.Laws.Declarations.{declaration-begun}
 use Rattle.parser.proofs.Laws.Options.{took-if}
@@ -59,10 +60,10 @@ module _ (source tokens : List ℕ) (good : Tokens tokens) (e : Names) where
   v = viewOf language17 source (rowsOf tokens)
 
   abbrev Under : ℕ → ℕ → ℕ → Makes → ℕ → List Symbol → Step → List ℕ → Step → List ℕ → Type 0
-  Under x n below m least ss = After productions17 v (tokenRoom tokens) e n below m least 0 (part x ∷ []) ss
+  Under x n below m least ss = After productions v (tokenRoom tokens) e n below m least 0 (part x ∷ []) ss
 
   abbrev Part : ℕ → ℕ → ℕ → Step → List ℕ → Step → List ℕ → Type 0
-  Part n least x = Reads productions17 v (tokenRoom tokens) e n least 0 (part x ∷ [])
+  Part n least x = Reads productions v (tokenRoom tokens) e n least 0 (part x ∷ [])
 
   -- `:` is what a definition begins with
   defined : {n below : ℕ} {s s₀ : Step} {t : List ℕ} → kindAlternative declaration (nextKind tokens s) ≡ 4 → Within tokens 1 s
@@ -77,8 +78,8 @@ module _ (source tokens : List ℕ) (good : Tokens tokens) (e : Names) where
       ∙ eqb-true _ _ (and-left _ _ (struct-opens tokens s j k read source e ∙ sym (opens source e)))
 
   struct-takes : (s : Step) → AnswersKinds (query opensStruct) tokens s true → (j k : ℕ) → s ≡ Read j k
-      → Takes productions17 v e definition (rule definition (says structRow)
-      (when (query opensStruct) ∷ token name ∷ part typeParameters ∷ only leftBrace ∷ part fields ∷ only rightBrace ∷ [])) j
+      → Takes productions v e definition (rule definition (says structRow)
+      (when (query opensStruct) ∷ token name ∷ part structParameters ∷ only leftBrace ∷ part fields ∷ only rightBrace ∷ [])) j
   unfolding asked
   struct-takes s opens j k read =
       takes (definition-struct v e j (class-low source tokens good e j)
@@ -92,11 +93,12 @@ module _ (source tokens : List ℕ) (good : Tokens tokens) (e : Names) where
   unfolding between and
   struct {s₀ = s₀} begins within level to₀ opens to₁ d₂ to₃ d₄ to₅ =
       let fixed = names-fixed source tokens good e in
-      let said = spoken productions17 v tokens e fixed (defined begins within level to₀) (struct-takes s₀ opens) refl in
-      let asks = held productions17 v tokens e fixed said
+      let said = spoken productions v tokens e fixed (defined begins within level to₀) (struct-takes s₀ opens) refl in
+      let asks = held productions v tokens e fixed said
       (met-here source tokens e (query opensStruct) s₀ true (sym (opens source e))) in
-      let a₂ = went productions17 v tokens e fixed (took-name source tokens good e asks to₁) d₂ in
-      let a₄ = went productions17 v tokens e fixed (took-mark source tokens good e leftBrace a₂ refl to₃) d₄ in
+      let list = struct-list source tokens good e d₂ in
+      let a₂ = went productions v tokens e fixed (took-name source tokens good e asks to₁) list in
+      let a₄ = went productions v tokens e fixed (took-mark source tokens good e leftBrace a₂ refl to₃) d₄ in
       took-mark source tokens good e rightBrace a₄ refl to₅
 
   -- an enum: `:` `|` IDENT `{` variant* `}`
@@ -111,11 +113,11 @@ module _ (source tokens : List ℕ) (good : Tokens tokens) (e : Names) where
       (defined begins within level to₀) (λ j k. definition-enum v e j (class-low source tokens good e j) (k ∙ is)) refl in
       let a₂ = took-name source tokens good e (took-mark source tokens good e bar said refl to₁) to₂ in
       let a₃ = took-mark source tokens good e leftBrace a₂ refl to₃ in
-      took-mark source tokens good e rightBrace (went productions17 v tokens e (names-fixed source tokens good e) a₃ d₄) refl to₅
+      took-mark source tokens good e rightBrace (went productions v tokens e (names-fixed source tokens good e) a₃ d₄) refl to₅
 
   constant-takes : (s : Step) → AnswersKinds (query opensStruct) tokens s false → eqb (nextKind tokens s) bar ≡ false
       → (j k : ℕ) → s ≡ Read j k
-      → Takes productions17 v e definition (rule definition (says constantRow)
+      → Takes productions v e definition (rule definition (says constantRow)
       (unless (query opensStruct) ∷ part mutable ∷ part type ∷ token name ∷ part literal ∷ [])) j
   unfolding asked nth
   constant-takes s shut other j k read =
@@ -128,7 +130,7 @@ module _ (source tokens : List ℕ) (good : Tokens tokens) (e : Names) where
       closed = asked-here source tokens e (query opensStruct) s false (sym (shut source e)) j k read
 
       by : (a : ℕ) (b : Bool) → kindAlternative type (kindOf (v .class e j)) ≡ a → eqb (kindOf (v .class e j)) tilde ≡ b
-          → Takes productions17 v e definition (rule definition (says constantRow)
+          → Takes productions v e definition (rule definition (says constantRow)
           (unless (query opensStruct) ∷ part mutable ∷ part type ∷ token name ∷ part literal ∷ [])) j
       by (suc a) b h h' = takes (definition-constant v e j low closed h)
       by zero true h h' = takes (definition-constant-tilde v e j low closed (eqb-true _ _ h'))
@@ -145,13 +147,13 @@ module _ (source tokens : List ℕ) (good : Tokens tokens) (e : Names) where
   unfolding between and
   constant {s₀ = s₀} begins within level to₀ shut other to₁ d₂ to₃ d₄ =
       let fixed = names-fixed source tokens good e in
-      let said = spoken productions17 v tokens e fixed (defined begins within level to₀) (constant-takes s₀ shut other) refl in
-      let asks = held productions17 v tokens e fixed said
+      let said = spoken productions v tokens e fixed (defined begins within level to₀) (constant-takes s₀ shut other) refl in
+      let asks = held productions v tokens e fixed said
       (met-here source tokens e (query opensStruct) s₀ false (sym (shut source e))) in
       let a₁ = took-if source tokens good e tilde (mark-marks tilde refl) (λ j. mutable-some v e j (class-low source tokens good e j))
       (λ j. mutable-none v e j (class-low source tokens good e j)) asks to₁ in
-      let a₃ = took-name source tokens good e (went productions17 v tokens e fixed a₁ d₂) to₃ in
-      went productions17 v tokens e fixed a₃ d₄
+      let a₃ = took-name source tokens good e (went productions v tokens e fixed a₁ d₂) to₃ in
+      went productions v tokens e fixed a₃ d₄
 
   -- rule 4: a name that is not a type name is that of a variant; it is a token of the table
   pub plain-kind : (s : Step) → askedAt plainName source tokens e s ≡ true → 0 < nextKind tokens s
@@ -163,19 +165,19 @@ module _ (source tokens : List ℕ) (good : Tokens tokens) (e : Names) where
 
   -- as many variants as there are
   pub variants-go : {n below least more : ℕ} {m : Makes} {ts ss : List Symbol} {s s' s'' : Step} {t t' t'' : List ℕ}
-      → After productions17 v (tokenRoom tokens) e n below m least more ts (part variants ∷ ss) s t s' t'
+      → After productions v (tokenRoom tokens) e n below m least more ts (part variants ∷ ss) s t s' t'
       → askedAt plainName source tokens e s' ≡ true → Part below 1 variant s' t' s'' t''
-      → After productions17 v (tokenRoom tokens) e n below m least more ts (part variants ∷ ss) s t s'' t''
+      → After productions v (tokenRoom tokens) e n below m least more ts (part variants ∷ ss) s t s'' t''
   variants-go {s' = s'} a is =
-      list-more productions17 v tokens e (names-fixed source tokens good e) a (λ (j k : ℕ) (read : s' ≡ Read j k).
+      list-more productions v tokens e (names-fixed source tokens good e) a (λ (j k : ℕ) (read : s' ≡ Read j k).
       variants-more v e j (class-low source tokens good e j) (plain-class source tokens e true s' is j k read))
 
   pub variants-end : {n : ℕ} {s s' : Step} {t t' : List ℕ}
-      → After productions17 v (tokenRoom tokens) e n n noRow 0 0 (part variants ∷ []) (part variants ∷ []) s t s' t'
+      → After productions v (tokenRoom tokens) e n n noRow 0 0 (part variants ∷ []) (part variants ∷ []) s t s' t'
       → askedAt plainName source tokens e s' ≡ false → Part n 0 variants s t s' t'
   variants-end {s' = s'} a is =
       let fixed = names-fixed source tokens good e in
-      done productions17 v tokens e fixed (list-done productions17 v tokens e fixed a (λ (j k : ℕ) (read : s' ≡ Read j k).
+      done productions v tokens e fixed (list-done productions v tokens e fixed a (λ (j k : ℕ) (read : s' ≡ Read j k).
       variants-done v e j (class-low source tokens good e j) (plain-class source tokens e false s' is j k read)))
 
   -- the name of a variant
@@ -185,13 +187,13 @@ module _ (source tokens : List ℕ) (good : Tokens tokens) (e : Names) where
   unfolding levels
   variant-named {n} {below} {s} {s₀} {s₁} {t} within level is to₀ to₁ =
       let fixed = names-fixed source tokens good e in
-      let a₀ = begun-part productions17 v tokens e fixed within level refl (λ (j k : ℕ) (read : s ≡ Read j k).
+      let a₀ = begun-part productions v tokens e fixed within level refl (λ (j k : ℕ) (read : s ≡ Read j k).
       variant-one v e j (class-low source tokens good e j) (plain-class source tokens e true s is j k read)) in
-      let asks = held productions17 v tokens e fixed a₀
+      let asks = held productions v tokens e fixed a₀
       (met-here source tokens e plainName (reserved s) true (asked-reserved plainName source tokens e s ∙ is)) in
       let a₁ = took-name source tokens good e asks (to₁ ∙ ap (taken tokens ident) to₀) in
-      let reach : Within tokens 2 (reserved s) = within-wider tokens (after-within productions17 v tokens e fixed asks) (omega arith) in
-      fewer productions17 v tokens e fixed a₁
+      let reach : Within tokens 2 (reserved s) = within-wider tokens (after-within productions v tokens e fixed asks) (omega arith) in
+      fewer productions v tokens e fixed a₁
       (rw (to₁, to₀) (taken-fewer tokens (λ (j : ℕ). eqb (kindAt tokens j) ident) (kind-room tokens ident (omega arith)) reach))
 
   -- a variant: IDENT type*
@@ -199,7 +201,7 @@ module _ (source tokens : List ℕ) (good : Tokens tokens) (e : Names) where
       → askedAt plainName source tokens e s ≡ true → s₀ ≡ reserved s → s₁ ≡ taken tokens ident s₀ → Part below 0 payloadTypes s₁ t s₂ t₁
       → Under variant n below (row variantRow) 1 [] s t s₂ t₁
   variant-reads within level is to₀ to₁ d₂ =
-      went productions17 v tokens e (names-fixed source tokens good e) (variant-named within level is to₀ to₁) d₂
+      went productions v tokens e (names-fixed source tokens good e) (variant-named within level is to₀ to₁) d₂
 
   -- a variant is too deep where no level is left
   pub variant-deep : {n : ℕ} (s : Step) {t : List ℕ} → askedAt plainName source tokens e s ≡ true → n ≡ 0
@@ -207,8 +209,8 @@ module _ (source tokens : List ℕ) (good : Tokens tokens) (e : Names) where
   unfolding levels
   variant-deep s is spent =
       let fixed = names-fixed source tokens good e in
-      rw spent (deep-at productions17 v tokens e fixed s (λ (j k : ℕ) (read : s ≡ Read j k).
-      gives-deep productions17 v e fixed variant j
+      rw spent (deep-at productions v tokens e fixed s (λ (j k : ℕ) (read : s ≡ Read j k).
+      gives-deep productions v e fixed variant j
       (rule variant (row variantRow) (when plainName ∷ token name ∷ part payloadTypes ∷ [])) []
       (variant-one v e j (class-low source tokens good e j) (plain-class source tokens e true s is j k read)) refl))
 
@@ -228,21 +230,21 @@ module _ (source tokens : List ℕ) (good : Tokens tokens) (e : Names) where
 
   -- as many payload types as there are
   pub payloadTypes-go : {n : ℕ} {s s' s'' : Step} {t t' t'' : List ℕ}
-      → After productions17 v (tokenRoom tokens) e n n noRow 0 0 (part payloadTypes ∷ []) (part payloadTypes ∷ []) s t s' t'
+      → After productions v (tokenRoom tokens) e n n noRow 0 0 (part payloadTypes ∷ []) (part payloadTypes ∷ []) s t s' t'
       → payloadBegins source tokens e s' ≡ true → Part n 1 type s' t' s'' t''
-      → After productions17 v (tokenRoom tokens) e n n noRow 0 0 (part payloadTypes ∷ []) (part payloadTypes ∷ []) s t s'' t''
+      → After productions v (tokenRoom tokens) e n n noRow 0 0 (part payloadTypes ∷ []) (part payloadTypes ∷ []) s t s'' t''
   payloadTypes-go {s' = s'} a is d =
       let fixed = names-fixed source tokens good e in
       let both = payload-both s' is in
-      let next = looked productions17 v tokens e fixed
+      let next = looked productions v tokens e fixed
       {q = rule payloadTypes noRow (unless plainName ∷ part type ∷ part payloadTypes ∷ [])} a (λ (j k : ℕ) (read : s' ≡ Read j k).
       takes (payloadTypes-more v e j (class-low source tokens good e j) (plain-class source tokens e false s' (both .0) j k read)
       (ap (kindAlternative type) (reached source tokens good e s' j k read) ∙ begins-some type tokens s' (both .1)))) refl in
-      let asks = held productions17 v tokens e fixed next (met-here source tokens e plainName s' false (both .0)) in
-      wider productions17 v tokens e fixed (went productions17 v tokens e fixed asks d) (omega arith) (omega arith)
+      let asks = held productions v tokens e fixed next (met-here source tokens e plainName s' false (both .0)) in
+      wider productions v tokens e fixed (went productions v tokens e fixed asks d) (omega arith) (omega arith)
 
   payload-done : (s : Step) → payloadBegins source tokens e s ≡ false → (j k : ℕ) → s ≡ Read j k
-      → choice productions17 v e payloadTypes j ≡ one (rule payloadTypes noRow [])
+      → choice productions v e payloadTypes j ≡ one (rule payloadTypes noRow [])
   unfolding payloadBegins
   payload-done s is j k read = by (askedAt plainName source tokens e s) refl
     where
@@ -250,15 +252,15 @@ module _ (source tokens : List ℕ) (good : Tokens tokens) (e : Names) where
       low = class-low source tokens good e j
 
       by : (b : Bool) → askedAt plainName source tokens e s ≡ b
-          → choice productions17 v e payloadTypes j ≡ one (rule payloadTypes noRow [])
+          → choice productions v e payloadTypes j ≡ one (rule payloadTypes noRow [])
       by true h = payloadTypes-done-plain v e j low (plain-class source tokens e true s h j k read)
       by false h =
           payloadTypes-done v e j low (ap (kindAlternative type) (reached source tokens good e s j k read)
           ∙ begins-none type tokens s (rw h at is))
 
   pub payloadTypes-end : {n : ℕ} {s s' : Step} {t t' : List ℕ}
-      → After productions17 v (tokenRoom tokens) e n n noRow 0 0 (part payloadTypes ∷ []) (part payloadTypes ∷ []) s t s' t'
+      → After productions v (tokenRoom tokens) e n n noRow 0 0 (part payloadTypes ∷ []) (part payloadTypes ∷ []) s t s' t'
       → payloadBegins source tokens e s' ≡ false → Part n 0 payloadTypes s t s' t'
   payloadTypes-end {s' = s'} a is =
       let fixed = names-fixed source tokens good e in
-      done productions17 v tokens e fixed (list-done productions17 v tokens e fixed a (payload-done s' is))
+      done productions v tokens e fixed (list-done productions v tokens e fixed a (payload-done s' is))

@@ -21,7 +21,7 @@ use Rattle.grammar.specs.RowKinds.{blockRow}
 use Rattle.grammar.specs.Nonterminals.{parameters, block, statements, expressions, expression, literal, tryOrClosure, typeArguments}
 use Rattle.grammar.specs.Nonterminals.{castRest, selector, arms, type}
 use Rattle.grammar.specs.Classes.{literals}
-use Rattle.grammar.specs.Nurl.{rule, aStar, opensClosure, zeroOrOne, productions17}
+use Rattle.grammar.specs.Nurl.{rule, aStar, opensClosure, zeroOrOne, productions}
 use Rattle.grammar.specs.Nurl.{one as only}
 use Rattle.grammar.specs.Languages.{language17}
 use Rattle.grammar.specs.Sources.{viewOf}
@@ -95,10 +95,10 @@ block-kind = rw (← kind-same) block-numbers
 
 -- every alternative of an expression makes a row, but for literals and blocks
 unfoldable rowedOr : ℕ → Bool
-rowedOr number = or (rowed (nth expression number productions17)) (or (eqb number 1) (eqb number 10))
+rowedOr number = or (rowed (nth expression number productions)) (or (eqb number 1) (eqb number 10))
 
 expression-numbers : leads (λ (k : ℕ). ltb 0 (kindNumber expression k)) (λ (k : ℕ). rowedOr (kindNumber expression k)) ≡ true
-unfolding leads below implies and or rowedOr rowed levels nth productions17 kindNumber
+unfolding leads below implies and or rowedOr rowed levels nth productions kindNumber
 expression-numbers = refl
 
 expression-rows : leads (λ (k : ℕ). ltb 0 (kindAlternative expression k)) (λ (k : ℕ). rowedOr (kindAlternative expression k)) ≡ true
@@ -145,10 +145,10 @@ module _ (source tokens : List ℕ) (good : Tokens tokens) (e : Names) where
   v = viewOf language17 source (rowsOf tokens)
 
   abbrev Under : ℕ → ℕ → ℕ → Makes → ℕ → List Symbol → Step → List ℕ → Step → List ℕ → Type 0
-  Under x n below m least ss = After productions17 v (tokenRoom tokens) e n below m least 0 (part x ∷ []) ss
+  Under x n below m least ss = After productions v (tokenRoom tokens) e n below m least 0 (part x ∷ []) ss
 
   abbrev Part : ℕ → ℕ → ℕ → Step → List ℕ → Step → List ℕ → Type 0
-  Part n least x = Reads productions17 v (tokenRoom tokens) e n least 0 (part x ∷ [])
+  Part n least x = Reads productions v (tokenRoom tokens) e n least 0 (part x ∷ [])
 
   abbrev kind : ℕ → ℕ
   kind j = kindOf (v .class e j)
@@ -164,21 +164,21 @@ module _ (source tokens : List ℕ) (good : Tokens tokens) (e : Names) where
   kind-bars test next all j =
       implies-false (test (kind j)) _ (class-shows source tokens good e (λ (c : ℕ). implies (test (kindOf c)) (next (kindOf c))) all j)
 
-  expression-choice : (j : ℕ) → choice productions17 v e expression j ≡ nth expression (kindAlternative expression (kind j)) productions17
+  expression-choice : (j : ℕ) → choice productions v e expression j ≡ nth expression (kindAlternative expression (kind j)) productions
   expression-choice j = expression-at v e j (class-low source tokens good e j)
 
   expression-chosen : {a : ℕ} (j : ℕ) → kindAlternative expression (kind j) ≡ a
-      → choice productions17 v e expression j ≡ nth expression a productions17
-  expression-chosen j is = expression-choice j ∙ ap (λ (n : ℕ). nth expression n productions17) is
+      → choice productions v e expression j ≡ nth expression a productions
+  expression-chosen j is = expression-choice j ∙ ap (λ (n : ℕ). nth expression n productions) is
 
   -- there is none where no expression begins
-  no-expression-here : (j : ℕ) → kindAlternative expression (kind j) ≡ 0 → choice productions17 v e expression j ≡ none
+  no-expression-here : (j : ℕ) → kindAlternative expression (kind j) ≡ 0 → choice productions v e expression j ≡ none
   unfolding nth
   no-expression-here j is = expression-chosen j is
 
   -- an alternative that makes a row is begun with its token
   expression-begun : {n below : ℕ} (number : ℕ) {m : Makes} {cs : List ℕ} {ss : List Symbol} {s s₀ : Step} {t : List ℕ}
-      → nth expression number productions17 ≡ one (rule expression m (token cs ∷ ss)) → Begins expression number cs
+      → nth expression number productions ≡ one (rule expression m (token cs ∷ ss)) → Begins expression number cs
       → kindAlternative expression (nextKind tokens s) ≡ number → Within tokens 1 s → n ≡ suc below → levels m ≡ 1
       → s₀ ≡ opened s → Under expression n below m 1 ss s t s₀ t
   expression-begun number is opens = begun-at source tokens good e expression-choice is opens
@@ -190,43 +190,43 @@ module _ (source tokens : List ℕ) (good : Tokens tokens) (e : Names) where
   expression-stuck s is = none-stuck source tokens good e s (alternative-is source tokens good e expression expression-choice s is)
 
   literal-chosen : (j : ℕ) → eqb (kindAlternative expression (kind j)) 1 ≡ true
-      → choice productions17 v e literal j ≡ one (rule literal (row literalRow) (token literals ∷ []))
+      → choice productions v e literal j ≡ one (rule literal (row literalRow) (token literals ∷ []))
   literal-chosen j is =
       literal-one v e j (class-low source tokens good e j)
       (kind-leads (λ (k : ℕ). eqb (kindAlternative expression k) 1) (among literals) literal-kind j is)
 
   block-chosen : (j : ℕ) → eqb (kindAlternative expression (kind j)) 10 ≡ true
-      → choice productions17 v e block j ≡ one (rule block (row blockRow) (only leftBrace ∷ part statements ∷ only rightBrace ∷ []))
+      → choice productions v e block j ≡ one (rule block (row blockRow) (only leftBrace ∷ part statements ∷ only rightBrace ∷ []))
   block-chosen j is =
       block-one v e j (class-low source tokens good e j) (eqb-true _ _
       (kind-leads (λ (k : ℕ). eqb (kindAlternative expression k) 10) (λ (k : ℕ). eqb k leftBrace) block-kind j is))
 
   literal-deeper : (j : ℕ) → eqb (kindAlternative expression (kind j)) 1 ≡ true
-      → Gives productions17 v e 0 (part expression ∷ []) j (deep j)
+      → Gives productions v e 0 (part expression ∷ []) j (deep j)
   unfolding levels
   literal-deeper j is =
       let fixed = names-fixed source tokens good e in
-      gives-inlined productions17 v e fixed (rule expression noRow (part literal ∷ []))
+      gives-inlined productions v e fixed (rule expression noRow (part literal ∷ []))
       (expression-chosen j (eqb-true _ _ is) ∙ expression-literal) refl
-      (gives-deep productions17 v e fixed literal j (rule literal (row literalRow) (token literals ∷ [])) [] (literal-chosen j is) refl)
+      (gives-deep productions v e fixed literal j (rule literal (row literalRow) (token literals ∷ [])) [] (literal-chosen j is) refl)
 
   block-deeper : (j : ℕ) → eqb (kindAlternative expression (kind j)) 10 ≡ true
-      → Gives productions17 v e 0 (part expression ∷ []) j (deep j)
+      → Gives productions v e 0 (part expression ∷ []) j (deep j)
   unfolding levels
   block-deeper j is =
       let fixed = names-fixed source tokens good e in
-      gives-inlined productions17 v e fixed (rule expression noRow (part block ∷ []))
+      gives-inlined productions v e fixed (rule expression noRow (part block ∷ []))
       (expression-chosen j (eqb-true _ _ is) ∙ expression-block) refl
-      (gives-deep productions17 v e fixed block j (rule block (row blockRow) (only leftBrace ∷ part statements ∷ only rightBrace ∷ [])) []
+      (gives-deep productions v e fixed block j (rule block (row blockRow) (only leftBrace ∷ part statements ∷ only rightBrace ∷ [])) []
       (block-chosen j is) refl)
 
   expression-deeper : (j : ℕ) → (kindAlternative expression (kind j) ≡ 0 → ⊥)
-      → Gives productions17 v e 0 (part expression ∷ []) j (deep j)
+      → Gives productions v e 0 (part expression ∷ []) j (deep j)
   unfolding rowedOr
   expression-deeper j some =
       let a = kindAlternative expression (kind j) in
-      or-else (rowed (nth expression a productions17)) (or (eqb a 1) (eqb a 10))
-      (rowed-deep productions17 v e (names-fixed source tokens good e) expression j _ (expression-choice j))
+      or-else (rowed (nth expression a productions)) (or (eqb a 1) (eqb a 10))
+      (rowed-deep productions v e (names-fixed source tokens good e) expression j _ (expression-choice j))
       (or-else (eqb a 1) (eqb a 10) (literal-deeper j) (block-deeper j))
       (kind-leads (λ (k : ℕ). ltb 0 (kindAlternative expression k)) (λ (k : ℕ). rowedOr (kindAlternative expression k)) expression-rows j
       (lt-ltb 0 a (pos-of-ne-zero some)))
@@ -235,7 +235,7 @@ module _ (source tokens : List ℕ) (good : Tokens tokens) (e : Names) where
   pub expression-deep : {n : ℕ} (s : Step) {t : List ℕ} → (kindAlternative expression (nextKind tokens s) ≡ 0 → ⊥) → n ≡ 0
       → Part n 1 expression s t (refusedAt 7 s) t
   expression-deep s some spent =
-      rw spent (deep-at productions17 v tokens e (names-fixed source tokens good e) s (λ (j k : ℕ) (is : s ≡ Read j k).
+      rw spent (deep-at productions v tokens e (names-fixed source tokens good e) s (λ (j k : ℕ) (is : s ≡ Read j k).
       expression-deeper j (λ (z : kindAlternative expression (kind j) ≡ 0).
       some (ap (kindAlternative expression) (sym (reached source tokens good e s j k is)) ∙ z))))
 
@@ -244,7 +244,7 @@ module _ (source tokens : List ℕ) (good : Tokens tokens) (e : Names) where
       → Within tokens 1 s → n ≡ suc below → r ≡ opened s → after ≡ closed literalRow s (opened s) t → Part n 1 literal s t r after
   unfolding levels
   literal-leaf begins within level answer table =
-      closed-by productions17 v tokens e (names-fixed source tokens good e)
+      closed-by productions v tokens e (names-fixed source tokens good e)
       (begun-by source tokens good e (λ (k : ℕ). eqb (kindAlternative expression k) 1) literal-begins literal-chosen
       (eq-eqb _ _ begins) within level refl refl) (omega arith) answer table
 
@@ -282,7 +282,7 @@ module _ (source tokens : List ℕ) (good : Tokens tokens) (e : Names) where
       → Within tokens 1 s → n ≡ suc below → r ≡ opened s → after ≡ closed nameRow s (opened s) t → Part n 1 expression s t r after
   unfolding levels
   name-expression begins within level answer table =
-      closed-by productions17 v tokens e (names-fixed source tokens good e)
+      closed-by productions v tokens e (names-fixed source tokens good e)
       (expression-begun 2 expression-name expression-name-begins begins within level refl refl) (omega arith) answer table
 
   -- a mark and so many expressions
@@ -308,13 +308,13 @@ module _ (source tokens : List ℕ) (good : Tokens tokens) (e : Names) where
   abbrev tryRule : Production
   tryRule = rule tryOrClosure (says tryRow) (unless (query opensClosure) ∷ part expression ∷ [])
 
-  try-takes : (j : ℕ) → v .holds opensClosure j ≡ false → Takes productions17 v e tryOrClosure tryRule j
+  try-takes : (j : ℕ) → v .holds opensClosure j ≡ false → Takes productions v e tryOrClosure tryRule j
   try-takes j answer = by (kindAlternative expression (kind j)) refl
     where
       low : v .class e j < classes
       low = class-low source tokens good e j
 
-      by : (a : ℕ) → kindAlternative expression (kind j) ≡ a → Takes productions17 v e tryOrClosure tryRule j
+      by : (a : ℕ) → kindAlternative expression (kind j) ≡ a → Takes productions v e tryOrClosure tryRule j
       by zero h = vain (tryOrClosure-none v e j low answer h) (barred-condition (barred-part (no-expression-here j h)))
       by (suc a) h = takes (tryOrClosure-try v e j low answer h)
 
@@ -326,18 +326,18 @@ module _ (source tokens : List ℕ) (good : Tokens tokens) (e : Names) where
   try-expression {s₀ = s₀} begins within level to₀ answers whether d₁ =
       let fixed = names-fixed source tokens good e in
       let answer = sym whether ∙ answers source e in
-      let said = spoken productions17 v tokens e fixed (backslashed begins within level to₀)
+      let said = spoken productions v tokens e fixed (backslashed begins within level to₀)
       (λ (j k : ℕ) (is : s₀ ≡ Read j k).
       try-takes j (asked-here source tokens e (query opensClosure) s₀ false (sym answer) j k is)) refl in
-      let asks = held productions17 v tokens e fixed said (met-here source tokens e (query opensClosure) s₀ false (sym answer)) in
-      went productions17 v tokens e fixed asks d₁
+      let asks = held productions v tokens e fixed said (met-here source tokens e (query opensClosure) s₀ false (sym answer)) in
+      went productions v tokens e fixed asks d₁
 
   abbrev closureRule : Production
   closureRule =
       rule tryOrClosure (says closureRow) (when (query opensClosure) ∷ part parameters ∷ only arrow ∷ part type ∷ part block ∷ [])
 
   closure-takes : (j : ℕ) → v .holds opensClosure j ≡ true → opensSome (kind j) ≡ true
-      → choice productions17 v e tryOrClosure j ≡ one closureRule
+      → choice productions v e tryOrClosure j ≡ one closureRule
   closure-takes j answer opens =
       or-else (eqb (kind j) arrow) (ltb 0 (kindAlternative type (kind j)))
       (λ (h : eqb (kind j) arrow ≡ true). tryOrClosure-closure-arrow v e j low answer (eqb-true _ _ h))
@@ -347,7 +347,7 @@ module _ (source tokens : List ℕ) (good : Tokens tokens) (e : Names) where
       low : v .class e j < classes
       low = class-low source tokens good e j
 
-      some : 0 < kindAlternative type (kind j) → choice productions17 v e tryOrClosure j ≡ one closureRule
+      some : 0 < kindAlternative type (kind j) → choice productions v e tryOrClosure j ≡ one closureRule
       some h =
           let number : kindAlternative type (kind j) ≡ suc (kindAlternative type (kind j) - 1) = omega arith in
           tryOrClosure-closure v e j low answer number
@@ -367,20 +367,20 @@ module _ (source tokens : List ℕ) (good : Tokens tokens) (e : Names) where
   closure {s₀ = s₀} begins within level to₀ answers whether d₁ to₂ d₃ d₄ =
       let fixed = names-fixed source tokens good e in
       let answer = sym whether ∙ answers source e in
-      let said = spoken productions17 v tokens e fixed (backslashed begins within level to₀)
+      let said = spoken productions v tokens e fixed (backslashed begins within level to₀)
       (λ (j k : ℕ) (is : s₀ ≡ Read j k).
       takes (closure-takes j (asked-here source tokens e (query opensClosure) s₀ true (sym answer) j k is)
       (closure-opened s₀ answer j k is))) refl in
-      let a₀ = held productions17 v tokens e fixed said (met-here source tokens e (query opensClosure) s₀ true (sym answer)) in
-      let a₂ = took-mark source tokens good e arrow (went productions17 v tokens e fixed a₀ d₁) refl to₂ in
-      went productions17 v tokens e fixed (went productions17 v tokens e fixed a₂ d₃) d₄
+      let a₀ = held productions v tokens e fixed said (met-here source tokens e (query opensClosure) s₀ true (sym answer)) in
+      let a₂ = took-mark source tokens good e arrow (went productions v tokens e fixed a₀ d₁) refl to₂ in
+      went productions v tokens e fixed (went productions v tokens e fixed a₂ d₃) d₄
 
   -- `Z` type
   pub size-of : {n below : ℕ} {s s₀ s₁ : Step} {t t₁ : List ℕ} → kindAlternative expression (nextKind tokens s) ≡ 8 → Within tokens 1 s
       → n ≡ suc below → s₀ ≡ opened s → Part below 1 type s₀ t s₁ t₁ → Under expression n below (row sizeofRow) 2 [] s t s₁ t₁
   unfolding levels
   size-of begins within level to₀ d₁ =
-      went productions17 v tokens e (names-fixed source tokens good e)
+      went productions v tokens e (names-fixed source tokens good e)
       (expression-begun 8 expression-sizeof expression-sizeof-begins begins within level refl to₀) d₁
 
   -- `(` IDENT words? expression* `)`
@@ -392,7 +392,7 @@ module _ (source tokens : List ℕ) (good : Tokens tokens) (e : Names) where
       let fixed = names-fixed source tokens good e in
       let a₀ = expression-begun 11 expression-call expression-call-begins begins within level refl to₀ in
       let a₁ = took-name source tokens good e a₀ to₁ in
-      let a₃ = went productions17 v tokens e fixed (went productions17 v tokens e fixed a₁ d₂) d₃ in
+      let a₃ = went productions v tokens e fixed (went productions v tokens e fixed a₁ d₂) d₃ in
       took-mark source tokens good e rightParen a₃ refl to₄
 
   -- `[` type `|` expression* `]`
@@ -403,8 +403,8 @@ module _ (source tokens : List ℕ) (good : Tokens tokens) (e : Names) where
   slice begins within level to₀ d₁ to₂ d₃ to₄ =
       let fixed = names-fixed source tokens good e in
       let a₀ = expression-begun 12 expression-slice expression-slice-begins begins within level refl to₀ in
-      let a₂ = took-mark source tokens good e bar (went productions17 v tokens e fixed a₀ d₁) refl to₂ in
-      took-mark source tokens good e rightBracket (went productions17 v tokens e fixed a₂ d₃) refl to₄
+      let a₂ = took-mark source tokens good e bar (went productions v tokens e fixed a₀ d₁) refl to₂ in
+      took-mark source tokens good e rightBracket (went productions v tokens e fixed a₂ d₃) refl to₄
 
   -- `@` type `{` expression* `}`
   pub aggregate : {n below : ℕ} {s s₀ s₁ s₂ s₃ s₄ : Step} {t t₁ t₂ : List ℕ} → kindAlternative expression (nextKind tokens s) ≡ 13
@@ -415,8 +415,8 @@ module _ (source tokens : List ℕ) (good : Tokens tokens) (e : Names) where
   aggregate begins within level to₀ d₁ to₂ d₃ to₄ =
       let fixed = names-fixed source tokens good e in
       let a₀ = expression-begun 13 expression-aggregate expression-aggregate-begins begins within level refl to₀ in
-      let a₂ = took-mark source tokens good e leftBrace (went productions17 v tokens e fixed a₀ d₁) refl to₂ in
-      took-mark source tokens good e rightBrace (went productions17 v tokens e fixed a₂ d₃) refl to₄
+      let a₂ = took-mark source tokens good e leftBrace (went productions v tokens e fixed a₀ d₁) refl to₂ in
+      took-mark source tokens good e rightBrace (went productions v tokens e fixed a₂ d₃) refl to₄
 
   -- whether the next token is a star
   star-met : (b : Bool) (s : Step) → eqb (nextKind tokens s) star ≡ b → (j k : ℕ) → s ≡ Read j k → met v e j b aStar ≡ true
@@ -437,19 +437,19 @@ module _ (source tokens : List ℕ) (good : Tokens tokens) (e : Names) where
       (rule castRest noRow (when aStar ∷ part type ∷ part expression ∷ part selector ∷ []))
       (expression-begun 15 expression-cast expression-cast-begins begins within level refl to₀)
       (λ j k. castRest-pointer v e j (class-low source tokens good e j) (k ∙ eqb-true (nextKind tokens s₀) star is)) refl in
-      let a₁ = went productions17 v tokens e fixed (held productions17 v tokens e fixed a₀ (star-met true s₀ is)) d₁ in
-      went productions17 v tokens e fixed (went productions17 v tokens e fixed a₁ d₂) d₃
+      let a₁ = went productions v tokens e fixed (held productions v tokens e fixed a₀ (star-met true s₀ is)) d₁ in
+      went productions v tokens e fixed (went productions v tokens e fixed a₁ d₂) d₃
 
   abbrev castRule : Production
   castRule = rule castRest noRow (unless aStar ∷ part type ∷ part expression ∷ [])
 
-  cast-takes : (j : ℕ) → eqb (kind j) star ≡ false → Takes productions17 v e castRest castRule j
+  cast-takes : (j : ℕ) → eqb (kind j) star ≡ false → Takes productions v e castRest castRule j
   cast-takes j not = by (kindAlternative type (kind j)) refl
     where
       low : v .class e j < classes
       low = class-low source tokens good e j
 
-      by : (a : ℕ) → kindAlternative type (kind j) ≡ a → Takes productions17 v e castRest castRule j
+      by : (a : ℕ) → kindAlternative type (kind j) ≡ a → Takes productions v e castRest castRule j
       by zero h = vain (castRest-none v e j low not h) (barred-condition (barred-part (type-none source tokens good e j h)))
       by (suc a) h = takes (castRest-other v e j low not h)
 
@@ -461,28 +461,28 @@ module _ (source tokens : List ℕ) (good : Tokens tokens) (e : Names) where
   plain-cast {s₀ = s₀} begins within level to₀ answer whether d₁ d₂ =
       let fixed = names-fixed source tokens good e in
       let not = sym answer ∙ whether in
-      let a₀ = looked productions17 v tokens e fixed
+      let a₀ = looked productions v tokens e fixed
       (expression-begun 15 expression-cast expression-cast-begins begins within level refl to₀)
       (λ (j k : ℕ) (is : s₀ ≡ Read j k).
       cast-takes j (ap (λ (n : ℕ). eqb n star) (reached source tokens good e s₀ j k is) ∙ not)) refl in
-      let a₁ = went productions17 v tokens e fixed (held productions17 v tokens e fixed a₀ (star-met false s₀ not)) d₁ in
-      went productions17 v tokens e fixed a₁ d₂
+      let a₁ = went productions v tokens e fixed (held productions v tokens e fixed a₀ (star-met false s₀ not)) d₁ in
+      went productions v tokens e fixed a₁ d₂
 
   -- as many expressions as there are
   pub expressions-go : {n : ℕ} {s s' s'' : Step} {t t' t'' : List ℕ}
-      → After productions17 v (tokenRoom tokens) e n n noRow 0 0 (part expressions ∷ []) (part expressions ∷ []) s t s' t'
+      → After productions v (tokenRoom tokens) e n n noRow 0 0 (part expressions ∷ []) (part expressions ∷ []) s t s' t'
       → begins expression tokens s' ≡ true → Part n 1 expression s' t' s'' t''
-      → After productions17 v (tokenRoom tokens) e n n noRow 0 0 (part expressions ∷ []) (part expressions ∷ []) s t s'' t''
+      → After productions v (tokenRoom tokens) e n n noRow 0 0 (part expressions ∷ []) (part expressions ∷ []) s t s'' t''
   expressions-go {s' = s'} a is =
-      list-more productions17 v tokens e (names-fixed source tokens good e) a (λ (j k : ℕ) (read : s' ≡ Read j k).
+      list-more productions v tokens e (names-fixed source tokens good e) a (λ (j k : ℕ) (read : s' ≡ Read j k).
       expressions-more v e j (class-low source tokens good e j) (begins-there source tokens good e expression s' is j k read))
 
   pub expressions-end : {n : ℕ} {s s' : Step} {t t' : List ℕ}
-      → After productions17 v (tokenRoom tokens) e n n noRow 0 0 (part expressions ∷ []) (part expressions ∷ []) s t s' t'
+      → After productions v (tokenRoom tokens) e n n noRow 0 0 (part expressions ∷ []) (part expressions ∷ []) s t s' t'
       → begins expression tokens s' ≡ false → Part n 0 expressions s t s' t'
   expressions-end {s' = s'} a is =
       let fixed = names-fixed source tokens good e in
-      done productions17 v tokens e fixed (list-done productions17 v tokens e fixed a (λ (j k : ℕ) (read : s' ≡ Read j k).
+      done productions v tokens e fixed (list-done productions v tokens e fixed a (λ (j k : ℕ) (read : s' ≡ Read j k).
       expressions-done v e j (class-low source tokens good e j) (none-there source tokens good e expression s' is j k read)))
 
   bit-int : (s : Step) → true ≡ askedAt (query zeroOrOne) source tokens e s → (j k : ℕ) → s ≡ Read j k → kind j ≡ int
@@ -497,13 +497,13 @@ module _ (source tokens : List ℕ) (good : Tokens tokens) (e : Names) where
   selector-some {s = s} within asks whether d =
       let fixed = names-fixed source tokens good e in
       let answer = sym whether ∙ asks in
-      let a = looked productions17 v tokens e fixed (start productions17 v tokens e fixed within)
+      let a = looked productions v tokens e fixed (start productions v tokens e fixed within)
       (λ (j k : ℕ) (is : s ≡ Read j k).
       takes (alternatives.selector-some v e j (class-low source tokens good e j)
       (asked-here source tokens e (query zeroOrOne) s true (sym answer) j k is) (bit-int s answer j k is))) refl in
-      let b = held productions17 v tokens e fixed a (met-here source tokens e (query zeroOrOne) s true (sym answer)) in
-      let c = went productions17 v tokens e fixed b d in
-      done productions17 v tokens e fixed (wider productions17 v tokens e fixed c (omega arith) (omega arith))
+      let b = held productions v tokens e fixed a (met-here source tokens e (query zeroOrOne) s true (sym answer)) in
+      let c = went productions v tokens e fixed b d in
+      done productions v tokens e fixed (wider productions v tokens e fixed c (omega arith) (omega arith))
 
   -- .. where there is none
   pub selector-none : {n : ℕ} {b : Bool} {s : Step} {t : List ℕ} → Within tokens 0 s
@@ -512,12 +512,12 @@ module _ (source tokens : List ℕ) (good : Tokens tokens) (e : Names) where
   selector-none {s = s} within asks whether =
       let fixed = names-fixed source tokens good e in
       let answer = sym whether ∙ asks in
-      let a = looked productions17 v tokens e fixed (start productions17 v tokens e fixed within)
+      let a = looked productions v tokens e fixed (start productions v tokens e fixed within)
       (λ (j k : ℕ) (is : s ≡ Read j k).
       takes (alternatives.selector-none v e j (class-low source tokens good e j)
       (asked-here source tokens e (query zeroOrOne) s false (sym answer) j k is))) refl in
-      done productions17 v tokens e fixed
-      (held productions17 v tokens e fixed a (met-here source tokens e (query zeroOrOne) s false (sym answer)))
+      done productions v tokens e fixed
+      (held productions v tokens e fixed a (met-here source tokens e (query zeroOrOne) s false (sym answer)))
 
   -- `??` expression `{` arm* `}`
   pub match-expression : {n below : ℕ} {s s₀ s₁ s₂ s₃ s₄ : Step} {t t₁ t₂ : List ℕ} → kindAlternative expression (nextKind tokens s) ≡ 16
@@ -527,5 +527,5 @@ module _ (source tokens : List ℕ) (good : Tokens tokens) (e : Names) where
   match-expression begins within level to₀ d₁ to₂ d₃ to₄ =
       let fixed = names-fixed source tokens good e in
       let a₀ = expression-begun 16 expression-match expression-match-begins begins within level refl to₀ in
-      let a₂ = took-mark source tokens good e leftBrace (went productions17 v tokens e fixed a₀ d₁) refl to₂ in
-      took-mark source tokens good e rightBrace (went productions17 v tokens e fixed a₂ d₃) refl to₄
+      let a₂ = took-mark source tokens good e leftBrace (went productions v tokens e fixed a₀ d₁) refl to₂ in
+      took-mark source tokens good e rightBrace (went productions v tokens e fixed a₂ d₃) refl to₄

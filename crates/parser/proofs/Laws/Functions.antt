@@ -16,7 +16,7 @@ use Rattle.grammar.specs.RowKinds.{traitRow, implRow, functionRow, headerRow}
 use Rattle.grammar.specs.Nonterminals.{declaration, interface, interfaceRest, methods, method, body, functions, function, parameters}
 use Rattle.grammar.specs.Nonterminals.{typeParameters, block, type}
 use Rattle.grammar.specs.Classes.{name}
-use Rattle.grammar.specs.Nurl.{rule, productions17}
+use Rattle.grammar.specs.Nurl.{rule, productions}
 use Rattle.grammar.specs.Nurl.{one as only}
 use Rattle.grammar.specs.Languages.{language17}
 use Rattle.grammar.specs.Sources.{viewOf}
@@ -50,14 +50,14 @@ module _ (source tokens : List ℕ) (good : Tokens tokens) (e : Names) where
   v = viewOf language17 source (rowsOf tokens)
 
   abbrev Under : ℕ → ℕ → ℕ → Makes → ℕ → List Symbol → Step → List ℕ → Step → List ℕ → Type 0
-  Under x n below m least ss = After productions17 v (tokenRoom tokens) e n below m least 0 (part x ∷ []) ss
+  Under x n below m least ss = After productions v (tokenRoom tokens) e n below m least 0 (part x ∷ []) ss
 
   abbrev Part : ℕ → ℕ → ℕ → Step → List ℕ → Step → List ℕ → Type 0
-  Part n least x = Reads productions17 v (tokenRoom tokens) e n least 0 (part x ∷ [])
+  Part n least x = Reads productions v (tokenRoom tokens) e n least 0 (part x ∷ [])
 
   -- `@` IDENT type-parameters? parameter* `→` type
   headed : {n below x : ℕ} {m : Makes} {ss : List Symbol} {s s₀ s₁ s₂ s₃ s₄ s₅ : Step} {t t₁ t₂ t₃ : List ℕ}
-      → ((j : ℕ) → kindOf (v .class e j) ≡ at → choice productions17 v e x j ≡ one (rule x m (only at ∷ header ss))) → levels m ≡ 1
+      → ((j : ℕ) → kindOf (v .class e j) ≡ at → choice productions v e x j ≡ one (rule x m (only at ∷ header ss))) → levels m ≡ 1
       → nextKind tokens s ≡ at → Within tokens 1 s → n ≡ suc below → s₀ ≡ opened s → s₁ ≡ taken tokens ident s₀
       → Part below 0 typeParameters s₁ t s₂ t₁ → Part below 0 parameters s₂ t₁ s₃ t₂ → s₄ ≡ taken tokens arrow s₃
       → Part below 1 type s₄ t₂ s₅ t₃ → Under x n below m 4 ss s t s₅ t₃
@@ -65,9 +65,9 @@ module _ (source tokens : List ℕ) (good : Tokens tokens) (e : Names) where
   headed chosen makes is within level to₀ to₁ d₂ d₃ to₄ d₅ =
       let fixed = names-fixed source tokens good e in
       let a₀ = begun-mark source tokens good e at refl chosen is within level makes to₀ in
-      let a₂ = went productions17 v tokens e fixed (took-name source tokens good e a₀ to₁) d₂ in
-      let a₄ = took-mark source tokens good e arrow (went productions17 v tokens e fixed a₂ d₃) refl to₄ in
-      went productions17 v tokens e fixed a₄ d₅
+      let a₂ = went productions v tokens e fixed (took-name source tokens good e a₀ to₁) d₂ in
+      let a₄ = took-mark source tokens good e arrow (went productions v tokens e fixed a₂ d₃) refl to₄ in
+      went productions v tokens e fixed a₄ d₅
 
   -- a function: its header and its block
   pub function-reads : {n below : ℕ} {s s₀ s₁ s₂ s₃ s₄ s₅ s₆ : Step} {t t₁ t₂ t₃ t₄ : List ℕ}
@@ -76,7 +76,7 @@ module _ (source tokens : List ℕ) (good : Tokens tokens) (e : Names) where
       → Part below 1 type s₄ t₂ s₅ t₃ → Part below 1 block s₅ t₃ s₆ t₄ → Under function n below (row functionRow) 5 [] s t s₆ t₄
   unfolding levels
   function-reads is within level to₀ to₁ d₂ d₃ to₄ d₅ d₆ =
-      went productions17 v tokens e (names-fixed source tokens good e)
+      went productions v tokens e (names-fixed source tokens good e)
       (headed (λ j. function-one v e j (class-low source tokens good e j)) refl is within level to₀ to₁ d₂ d₃ to₄ d₅) d₆
 
   methoded : {n below : ℕ} {s s₀ s₁ s₂ s₃ s₄ s₅ : Step} {t t₁ t₂ t₃ : List ℕ}
@@ -96,7 +96,7 @@ module _ (source tokens : List ℕ) (good : Tokens tokens) (e : Names) where
       let said = spoken-by source tokens good e (rule body (says functionRow) (part block ∷ []))
       (methoded is within level to₀ to₁ d₂ d₃ to₄ d₅)
       (λ j k. body-some v e j (class-low source tokens good e j) (ap (λ (n : ℕ). eqb n leftBrace) k ∙ brace)) refl in
-      went productions17 v tokens e (names-fixed source tokens good e) said d₆
+      went productions v tokens e (names-fixed source tokens good e) said d₆
 
   -- .. one without a header
   pub header-reads : {n below : ℕ} {s s₀ s₁ s₂ s₃ s₄ s₅ : Step} {t t₁ t₂ t₃ : List ℕ}
@@ -116,36 +116,36 @@ module _ (source tokens : List ℕ) (good : Tokens tokens) (e : Names) where
 
   -- as many functions as there are
   pub functions-go : {n below least more : ℕ} {m : Makes} {ts ss : List Symbol} {s s' s'' : Step} {t t' t'' : List ℕ}
-      → After productions17 v (tokenRoom tokens) e n below m least more ts (part functions ∷ ss) s t s' t'
+      → After productions v (tokenRoom tokens) e n below m least more ts (part functions ∷ ss) s t s' t'
       → eqb (nextKind tokens s') at ≡ true → Part below 1 function s' t' s'' t''
-      → After productions17 v (tokenRoom tokens) e n below m least more ts (part functions ∷ ss) s t s'' t''
+      → After productions v (tokenRoom tokens) e n below m least more ts (part functions ∷ ss) s t s'' t''
   functions-go {s' = s'} a is =
-      list-more productions17 v tokens e (names-fixed source tokens good e) a (λ (j k : ℕ) (read : s' ≡ Read j k).
+      list-more productions v tokens e (names-fixed source tokens good e) a (λ (j k : ℕ) (read : s' ≡ Read j k).
       functions-more v e j (class-low source tokens good e j) (reached source tokens good e s' j k read ∙ eqb-true _ _ is))
 
   pub functions-end : {n : ℕ} {s s' : Step} {t t' : List ℕ}
-      → After productions17 v (tokenRoom tokens) e n n noRow 0 0 (part functions ∷ []) (part functions ∷ []) s t s' t'
+      → After productions v (tokenRoom tokens) e n n noRow 0 0 (part functions ∷ []) (part functions ∷ []) s t s' t'
       → eqb (nextKind tokens s') at ≡ false → Part n 0 functions s t s' t'
   functions-end {s' = s'} a is =
       let fixed = names-fixed source tokens good e in
-      done productions17 v tokens e fixed (list-done productions17 v tokens e fixed a (λ (j k : ℕ) (read : s' ≡ Read j k).
+      done productions v tokens e fixed (list-done productions v tokens e fixed a (λ (j k : ℕ) (read : s' ≡ Read j k).
       functions-done v e j (class-low source tokens good e j) (ap (λ (n : ℕ). eqb n at) (reached source tokens good e s' j k read) ∙ is)))
 
   -- .. and of methods
   pub methods-go : {n below least more : ℕ} {m : Makes} {ts ss : List Symbol} {s s' s'' : Step} {t t' t'' : List ℕ}
-      → After productions17 v (tokenRoom tokens) e n below m least more ts (part methods ∷ ss) s t s' t'
+      → After productions v (tokenRoom tokens) e n below m least more ts (part methods ∷ ss) s t s' t'
       → eqb (nextKind tokens s') at ≡ true → Part below 1 method s' t' s'' t''
-      → After productions17 v (tokenRoom tokens) e n below m least more ts (part methods ∷ ss) s t s'' t''
+      → After productions v (tokenRoom tokens) e n below m least more ts (part methods ∷ ss) s t s'' t''
   methods-go {s' = s'} a is =
-      list-more productions17 v tokens e (names-fixed source tokens good e) a (λ (j k : ℕ) (read : s' ≡ Read j k).
+      list-more productions v tokens e (names-fixed source tokens good e) a (λ (j k : ℕ) (read : s' ≡ Read j k).
       methods-more v e j (class-low source tokens good e j) (reached source tokens good e s' j k read ∙ eqb-true _ _ is))
 
   pub methods-end : {n : ℕ} {s s' : Step} {t t' : List ℕ}
-      → After productions17 v (tokenRoom tokens) e n n noRow 0 0 (part methods ∷ []) (part methods ∷ []) s t s' t'
+      → After productions v (tokenRoom tokens) e n n noRow 0 0 (part methods ∷ []) (part methods ∷ []) s t s' t'
       → eqb (nextKind tokens s') at ≡ false → Part n 0 methods s t s' t'
   methods-end {s' = s'} a is =
       let fixed = names-fixed source tokens good e in
-      done productions17 v tokens e fixed (list-done productions17 v tokens e fixed a (λ (j k : ℕ) (read : s' ≡ Read j k).
+      done productions v tokens e fixed (list-done productions v tokens e fixed a (λ (j k : ℕ) (read : s' ≡ Read j k).
       methods-done v e j (class-low source tokens good e j) (ap (λ (n : ℕ). eqb n at) (reached source tokens good e s' j k read) ∙ is)))
 
   -- `%` IDENT type-parameters?
@@ -156,7 +156,7 @@ module _ (source tokens : List ℕ) (good : Tokens tokens) (e : Names) where
   interfaced begins within level to₀ to₁ d₂ =
       let a₀ = begun-mark source tokens good e percent refl (λ j. interface-one v e j (class-low source tokens good e j))
       (interface-kind _ begins) within level refl to₀ in
-      went productions17 v tokens e (names-fixed source tokens good e) (took-name source tokens good e a₀ to₁) d₂
+      went productions v tokens e (names-fixed source tokens good e) (took-name source tokens good e a₀ to₁) d₂
 
   -- a trait: `%` IDENT type-parameters? `{` method* `}`
   pub trait : {n below : ℕ} {s s₀ s₁ s₂ s₃ s₄ s₅ : Step} {t t₁ t₂ : List ℕ} → kindAlternative declaration (nextKind tokens s) ≡ 5
@@ -170,11 +170,11 @@ module _ (source tokens : List ℕ) (good : Tokens tokens) (e : Names) where
       (interfaced begins within level to₀ to₁ d₂)
       (λ j k. interfaceRest-trait v e j (class-low source tokens good e j) (k ∙ eqb-true _ _ brace)) refl in
       let a₃ = took-mark source tokens good e leftBrace said refl to₃ in
-      let a₄ = went productions17 v tokens e (names-fixed source tokens good e) a₃ d₄ in
+      let a₄ = went productions v tokens e (names-fixed source tokens good e) a₃ d₄ in
       took-mark source tokens good e rightBrace a₄ refl to₅
 
   impl-takes : (s : Step) → eqb (nextKind tokens s) leftBrace ≡ false → (j : ℕ) → kindOf (v .class e j) ≡ nextKind tokens s
-      → Takes productions17 v e interfaceRest
+      → Takes productions v e interfaceRest
       (rule interfaceRest (says implRow) (part type ∷ only leftBrace ∷ part functions ∷ only rightBrace ∷ [])) j
   unfolding nth
   impl-takes s brace j k = by (kindAlternative type (kindOf (v .class e j))) refl
@@ -183,7 +183,7 @@ module _ (source tokens : List ℕ) (good : Tokens tokens) (e : Names) where
       low = class-low source tokens good e j
 
       by : (a : ℕ) → kindAlternative type (kindOf (v .class e j)) ≡ a
-          → Takes productions17 v e interfaceRest
+          → Takes productions v e interfaceRest
           (rule interfaceRest (says implRow) (part type ∷ only leftBrace ∷ part functions ∷ only rightBrace ∷ [])) j
       by zero h =
           vain (interfaceRest-none v e j low (ap (λ (n : ℕ). eqb n leftBrace) k ∙ brace) h)
@@ -198,7 +198,7 @@ module _ (source tokens : List ℕ) (good : Tokens tokens) (e : Names) where
   unfolding between and
   impl {s₂ = s₂} begins within level to₀ to₁ d₂ brace d₃ to₄ d₅ to₆ =
       let fixed = names-fixed source tokens good e in
-      let said = spoken productions17 v tokens e fixed (interfaced begins within level to₀ to₁ d₂)
+      let said = spoken productions v tokens e fixed (interfaced begins within level to₀ to₁ d₂)
       (λ (j k : ℕ) (is : s₂ ≡ Read j k). impl-takes s₂ brace j (reached source tokens good e s₂ j k is)) refl in
-      let a₄ = took-mark source tokens good e leftBrace (went productions17 v tokens e fixed said d₃) refl to₄ in
-      took-mark source tokens good e rightBrace (went productions17 v tokens e fixed a₄ d₅) refl to₆
+      let a₄ = took-mark source tokens good e leftBrace (went productions v tokens e fixed said d₃) refl to₄ in
+      took-mark source tokens good e rightBrace (went productions v tokens e fixed a₄ d₅) refl to₆

@@ -13,7 +13,7 @@ use Rattle.grammar.specs.Reading.{one}
 use Rattle.grammar.specs.RowKinds.{armRow, payloadRow}
 use Rattle.grammar.specs.Nonterminals.{expression, arms, arm, payloads3, payloads2, payloads1, payload}
 use Rattle.grammar.specs.Classes.{armHead, payloadToken}
-use Rattle.grammar.specs.Nurl.{rule, productions17}
+use Rattle.grammar.specs.Nurl.{rule, productions}
 use Rattle.grammar.specs.Nurl.{one as only}
 use Rattle.grammar.specs.Languages.{language17}
 use Rattle.grammar.specs.Sources.{viewOf}
@@ -55,27 +55,27 @@ module _ (source tokens : List ℕ) (good : Tokens tokens) (e : Names) where
   v = viewOf language17 source (rowsOf tokens)
 
   abbrev Under : ℕ → ℕ → ℕ → Makes → ℕ → List Symbol → Step → List ℕ → Step → List ℕ → Type 0
-  Under x n below m least ss = After productions17 v (tokenRoom tokens) e n below m least 0 (part x ∷ []) ss
+  Under x n below m least ss = After productions v (tokenRoom tokens) e n below m least 0 (part x ∷ []) ss
 
   abbrev Part : ℕ → ℕ → ℕ → Step → List ℕ → Step → List ℕ → Type 0
-  Part n least x = Reads productions17 v (tokenRoom tokens) e n least 0 (part x ∷ [])
+  Part n least x = Reads productions v (tokenRoom tokens) e n least 0 (part x ∷ [])
 
   -- as many arms as there are
   pub arms-go : {n : ℕ} {s s' s'' : Step} {t t' t'' : List ℕ}
-      → After productions17 v (tokenRoom tokens) e n n noRow 0 0 (part arms ∷ []) (part arms ∷ []) s t s' t'
+      → After productions v (tokenRoom tokens) e n n noRow 0 0 (part arms ∷ []) (part arms ∷ []) s t s' t'
       → among armKinds (nextKind tokens s') ≡ true
       → Part n 1 arm s' t' s'' t''
-      → After productions17 v (tokenRoom tokens) e n n noRow 0 0 (part arms ∷ []) (part arms ∷ []) s t s'' t''
+      → After productions v (tokenRoom tokens) e n n noRow 0 0 (part arms ∷ []) (part arms ∷ []) s t s'' t''
   arms-go {s' = s'} a is =
-      list-more productions17 v tokens e (names-fixed source tokens good e) a (λ (j k : ℕ) (read : s' ≡ Read j k).
+      list-more productions v tokens e (names-fixed source tokens good e) a (λ (j k : ℕ) (read : s' ≡ Read j k).
       arms-more v e j (class-low source tokens good e j) (ap (among armKinds) (reached source tokens good e s' j k read) ∙ is))
 
   pub arms-end : {n : ℕ} {s s' : Step} {t t' : List ℕ}
-      → After productions17 v (tokenRoom tokens) e n n noRow 0 0 (part arms ∷ []) (part arms ∷ []) s t s' t'
+      → After productions v (tokenRoom tokens) e n n noRow 0 0 (part arms ∷ []) (part arms ∷ []) s t s' t'
       → among armKinds (nextKind tokens s') ≡ false → Part n 0 arms s t s' t'
   arms-end {s' = s'} a is =
       let fixed = names-fixed source tokens good e in
-      done productions17 v tokens e fixed (list-done productions17 v tokens e fixed a (λ (j k : ℕ) (read : s' ≡ Read j k).
+      done productions v tokens e fixed (list-done productions v tokens e fixed a (λ (j k : ℕ) (read : s' ≡ Read j k).
       arms-done v e j (class-low source tokens good e j) (ap (among armKinds) (reached source tokens good e s' j k read) ∙ is)))
 
   -- a head, payloads, `→` and an expression
@@ -89,8 +89,8 @@ module _ (source tokens : List ℕ) (good : Tokens tokens) (e : Names) where
       let fixed = names-fixed source tokens good e in
       let a₀ = begun-by source tokens good e (among armKinds) arm-opens
       (λ (j : ℕ). arm-one v e j (class-low source tokens good e j)) is within level refl to₀ in
-      went productions17 v tokens e fixed
-      (took-mark source tokens good e arrow (went productions17 v tokens e fixed a₀ d₁) refl to₂) d₃
+      went productions v tokens e fixed
+      (took-mark source tokens good e arrow (went productions v tokens e fixed a₀ d₁) refl to₂) d₃
 
   -- an arm is too deep where no level is left
   pub arm-deep : {n : ℕ} (s : Step) {t : List ℕ} → among armKinds (nextKind tokens s) ≡ true → n ≡ 0
@@ -114,7 +114,7 @@ module _ (source tokens : List ℕ) (good : Tokens tokens) (e : Names) where
       → n ≡ suc below → r ≡ opened s → after ≡ closed payloadRow s (opened s) t
       → Part n 1 payload s t r after
   payload-leaf is within level answer table =
-      closed-by productions17 v tokens e (names-fixed source tokens good e) (payload-begun is within level refl) (omega arith)
+      closed-by productions v tokens e (names-fixed source tokens good e) (payload-begun is within level refl) (omega arith)
       answer table
 
   -- it is too deep where no level is left
@@ -126,7 +126,7 @@ module _ (source tokens : List ℕ) (good : Tokens tokens) (e : Names) where
       (λ j k. payload-one v e j (class-low source tokens good e j) (ap (among payloadKinds) k ∙ is))
 
   abbrev Payloads : ℕ → ℕ → Step → List ℕ → Step → List ℕ → Type 0
-  Payloads n count = After productions17 v (tokenRoom tokens) e n n noRow 0 0 (part payloads3 ∷ []) (payloadsLeft count)
+  Payloads n count = After productions v (tokenRoom tokens) e n n noRow 0 0 (part payloads3 ∷ []) (payloadsLeft count)
 
   -- one of at most three payloads
   pub payloads-go : {n : ℕ} (count : ℕ) {s s' s'' : Step} {t t' t'' : List ℕ} → count < 3
@@ -138,17 +138,17 @@ module _ (source tokens : List ℕ) (good : Tokens tokens) (e : Names) where
       let fixed = names-fixed source tokens good e in
       let b = looked-by source tokens good e (rule payloads3 noRow (part payload ∷ part payloads2 ∷ [])) a
       (λ j k. payloads3-more v e j (class-low source tokens good e j) (ap (among payloadKinds) k ∙ is)) refl in
-      wider productions17 v tokens e fixed (went productions17 v tokens e fixed b d) (omega arith) (omega arith)
+      wider productions v tokens e fixed (went productions v tokens e fixed b d) (omega arith) (omega arith)
   payloads-go (suc zero) few a is d =
       let fixed = names-fixed source tokens good e in
       let b = looked-by source tokens good e (rule payloads2 noRow (part payload ∷ part payloads1 ∷ [])) a
       (λ j k. payloads2-more v e j (class-low source tokens good e j) (ap (among payloadKinds) k ∙ is)) refl in
-      wider productions17 v tokens e fixed (went productions17 v tokens e fixed b d) (omega arith) (omega arith)
+      wider productions v tokens e fixed (went productions v tokens e fixed b d) (omega arith) (omega arith)
   payloads-go (suc (suc zero)) few a is d =
       let fixed = names-fixed source tokens good e in
       let b = looked-by source tokens good e (rule payloads1 noRow (part payload ∷ [])) a
       (λ j k. payloads1-more v e j (class-low source tokens good e j) (ap (among payloadKinds) k ∙ is)) refl in
-      wider productions17 v tokens e fixed (went productions17 v tokens e fixed b d) (omega arith) (omega arith)
+      wider productions v tokens e fixed (went productions v tokens e fixed b d) (omega arith) (omega arith)
   payloads-go (suc (suc (suc count))) few a is d = absurd (omega arith)
 
   -- three are all, ..
@@ -158,7 +158,7 @@ module _ (source tokens : List ℕ) (good : Tokens tokens) (e : Names) where
   payloads-all {count = zero} many a = absurd (omega arith)
   payloads-all {count = suc zero} many a = absurd (omega arith)
   payloads-all {count = suc (suc zero)} many a = absurd (omega arith)
-  payloads-all {count = suc (suc (suc count))} many a = done productions17 v tokens e (names-fixed source tokens good e) a
+  payloads-all {count = suc (suc (suc count))} many a = done productions v tokens e (names-fixed source tokens good e) a
 
   -- .. and fewer before what is none
   pub payloads-end : {n : ℕ} (count : ℕ) {s s' : Step} {t t' : List ℕ} → Payloads n count s t s' t'
@@ -166,12 +166,12 @@ module _ (source tokens : List ℕ) (good : Tokens tokens) (e : Names) where
       → Part n 0 payloads3 s t s' t'
   unfolding payloadsLeft
   payloads-end zero a is =
-      done productions17 v tokens e (names-fixed source tokens good e) (looked-by source tokens good e (rule payloads3 noRow []) a
+      done productions v tokens e (names-fixed source tokens good e) (looked-by source tokens good e (rule payloads3 noRow []) a
       (λ j k. payloads3-done v e j (class-low source tokens good e j) (ap (among payloadKinds) k ∙ is)) refl)
   payloads-end (suc zero) a is =
-      done productions17 v tokens e (names-fixed source tokens good e) (looked-by source tokens good e (rule payloads2 noRow []) a
+      done productions v tokens e (names-fixed source tokens good e) (looked-by source tokens good e (rule payloads2 noRow []) a
       (λ j k. payloads2-done v e j (class-low source tokens good e j) (ap (among payloadKinds) k ∙ is)) refl)
   payloads-end (suc (suc zero)) a is =
-      done productions17 v tokens e (names-fixed source tokens good e) (looked-by source tokens good e (rule payloads1 noRow []) a
+      done productions v tokens e (names-fixed source tokens good e) (looked-by source tokens good e (rule payloads1 noRow []) a
       (λ j k. payloads1-done v e j (class-low source tokens good e j) (ap (among payloadKinds) k ∙ is)) refl)
-  payloads-end (suc (suc (suc count))) a is = done productions17 v tokens e (names-fixed source tokens good e) a
+  payloads-end (suc (suc (suc count))) a is = done productions v tokens e (names-fixed source tokens good e) a

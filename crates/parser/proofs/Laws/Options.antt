@@ -11,7 +11,7 @@ use Rattle.lexer.specs.Kinds.{lastKind}
 use Rattle.lexer.specs.Table.{tokenRoom, rowsOf, kindAt}
 use Rattle.grammar.specs.Grammars.{next, Symbol, token, part, Makes, noRow, Names, View, asked, met}
 use Rattle.grammar.specs.Reading.{one, choice}
-use Rattle.grammar.specs.Nurl.{rule, productions17}
+use Rattle.grammar.specs.Nurl.{rule, productions}
 use Rattle.grammar.specs.Languages.{language17}
 use Rattle.grammar.specs.Sources.{viewOf}
 use Rattle.grammar.specs.Alternatives.{kindOf}
@@ -49,26 +49,26 @@ module _ (source tokens : List ℕ) (good : Tokens tokens) (e : Names) where
   pub took-where : {n below least more : ℕ} (kind : ℕ) {m : Makes} {cs : List ℕ} {ts ss : List Symbol} {s s' s'' : Step} {t t' : List ℕ}
       → marks cs kind ≡ true
       → (eqb (nextKind tokens s') kind ≡ true
-      → After productions17 v (tokenRoom tokens) e n below m least more ts (token cs ∷ ss) s t s' t')
-      → (eqb (nextKind tokens s') kind ≡ false → After productions17 v (tokenRoom tokens) e n below m least more ts ss s t s' t')
-      → s'' ≡ takenIf tokens kind s' → After productions17 v (tokenRoom tokens) e n below m least more ts ss s t s'' t'
+      → After productions v (tokenRoom tokens) e n below m least more ts (token cs ∷ ss) s t s' t')
+      → (eqb (nextKind tokens s') kind ≡ false → After productions v (tokenRoom tokens) e n below m least more ts ss s t s' t')
+      → s'' ≡ takenIf tokens kind s' → After productions v (tokenRoom tokens) e n below m least more ts ss s t s'' t'
   took-where {n} {below} {least} {more} kind {m} {cs} {ts} {ss} {s} {s'} {s''} {t} {t'} is some none to =
       by (eqb (nextKind tokens s') kind) refl
     where
       by : (b : Bool) → eqb (nextKind tokens s') kind ≡ b
-          → After productions17 v (tokenRoom tokens) e n below m least more ts ss s t s'' t'
+          → After productions v (tokenRoom tokens) e n below m least more ts ss s t s'' t'
       by true h =
-          wider productions17 v tokens e (names-fixed source tokens good e)
+          wider productions v tokens e (names-fixed source tokens good e)
           (took-kind source tokens good e kind (some h) is (to ∙ if-taken tokens kind s' h)) (omega arith) (omega arith)
       by false h = rw (to, if-kept tokens kind s' h) (none h)
 
   -- a nonterminal that is such a token or nothing
   pub took-if : {n below least more y : ℕ} (kind : ℕ) {m : Makes} {cs : List ℕ} {ts ss : List Symbol} {s s' s'' : Step} {t t' : List ℕ}
       → marks cs kind ≡ true
-      → ((j : ℕ) → eqb (kindOf (v .class e j)) kind ≡ true → choice productions17 v e y j ≡ one (rule y noRow (token cs ∷ [])))
-      → ((j : ℕ) → eqb (kindOf (v .class e j)) kind ≡ false → choice productions17 v e y j ≡ one (rule y noRow []))
-      → After productions17 v (tokenRoom tokens) e n below m least more ts (part y ∷ ss) s t s' t'
-      → s'' ≡ takenIf tokens kind s' → After productions17 v (tokenRoom tokens) e n below m least more ts ss s t s'' t'
+      → ((j : ℕ) → eqb (kindOf (v .class e j)) kind ≡ true → choice productions v e y j ≡ one (rule y noRow (token cs ∷ [])))
+      → ((j : ℕ) → eqb (kindOf (v .class e j)) kind ≡ false → choice productions v e y j ≡ one (rule y noRow []))
+      → After productions v (tokenRoom tokens) e n below m least more ts (part y ∷ ss) s t s' t'
+      → s'' ≡ takenIf tokens kind s' → After productions v (tokenRoom tokens) e n below m least more ts ss s t s'' t'
   took-if {y = y} kind {cs = cs} {s' = s'} is some none a =
       took-where kind is
       (λ (h : eqb (nextKind tokens s') kind ≡ true). looked-by source tokens good e (rule y noRow (token cs ∷ [])) a

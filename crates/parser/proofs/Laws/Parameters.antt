@@ -12,7 +12,7 @@ use Rattle.grammar.specs.Reading.{one, choice}
 use Rattle.grammar.specs.RowKinds.{parameterRow}
 use Rattle.grammar.specs.Nonterminals.{type, parameters, parameter, fields, field, fieldName}
 use Rattle.grammar.specs.Classes.{name}
-use Rattle.grammar.specs.Nurl.{rule, productions17, anyName}
+use Rattle.grammar.specs.Nurl.{rule, productions, anyName}
 use Rattle.grammar.specs.Languages.{language17}
 use Rattle.grammar.specs.Sources.{viewOf}
 use Rattle.grammar.specs.Alternatives.{kindOf, kindAlternative}
@@ -33,10 +33,10 @@ module _ (source tokens : List ℕ) (good : Tokens tokens) (e : Names) where
   v = viewOf language17 source (rowsOf tokens)
 
   abbrev Under : ℕ → ℕ → ℕ → Makes → ℕ → List Symbol → Step → List ℕ → Step → List ℕ → Type 0
-  Under x n below m least ss = After productions17 v (tokenRoom tokens) e n below m least 0 (part x ∷ []) ss
+  Under x n below m least ss = After productions v (tokenRoom tokens) e n below m least 0 (part x ∷ []) ss
 
   abbrev Part : ℕ → ℕ → ℕ → Step → List ℕ → Step → List ℕ → Type 0
-  Part n least x = Reads productions17 v (tokenRoom tokens) e n least 0 (part x ∷ [])
+  Part n least x = Reads productions v (tokenRoom tokens) e n least 0 (part x ∷ [])
 
   -- a type has an alternative where one begins
   some-type : (s : Step) → begins type tokens s ≡ true → (j : ℕ) → kindOf (v .class e j) ≡ nextKind tokens s
@@ -44,11 +44,11 @@ module _ (source tokens : List ℕ) (good : Tokens tokens) (e : Names) where
   some-type s is j k = ap (kindAlternative type) k ∙ begins-some type tokens s is
 
   parameter-is : (s : Step) → begins type tokens s ≡ true → (j : ℕ) → kindOf (v .class e j) ≡ nextKind tokens s
-      → choice productions17 v e parameter j ≡ one (rule parameter (row parameterRow) (part type ∷ token name ∷ []))
+      → choice productions v e parameter j ≡ one (rule parameter (row parameterRow) (part type ∷ token name ∷ []))
   parameter-is s is j k = parameter-one v e j (class-low source tokens good e j) (some-type s is j k)
 
   field-is : (s : Step) → begins type tokens s ≡ true → (j : ℕ) → kindOf (v .class e j) ≡ nextKind tokens s
-      → choice productions17 v e field j ≡ one (rule field (row parameterRow) (part type ∷ part fieldName ∷ []))
+      → choice productions v e field j ≡ one (rule field (row parameterRow) (part type ∷ part fieldName ∷ []))
   field-is s is j k = field-one v e j (class-low source tokens good e j) (some-type s is j k)
 
   -- type IDENT
@@ -59,11 +59,11 @@ module _ (source tokens : List ℕ) (good : Tokens tokens) (e : Names) where
   unfolding levels
   parameter-read {n} {below} {s} {s₀} {t = t} is within level to₀ d₁ to₂ =
       let fixed = names-fixed source tokens good e in
-      let a₀ : After productions17 v (tokenRoom tokens) e n below (row parameterRow) 0 1 (part parameter ∷ [])
+      let a₀ : After productions v (tokenRoom tokens) e n below (row parameterRow) 0 1 (part parameter ∷ [])
       (part type ∷ token name ∷ []) s t s₀ t =
-      rw to₀ (begun-part productions17 v tokens e fixed within level refl
+      rw to₀ (begun-part productions v tokens e fixed within level refl
       (λ (i r : ℕ) (at : s ≡ Read i r). parameter-is s is i (reached source tokens good e s i r at))) in
-      took-name source tokens good e (went productions17 v tokens e fixed a₀ d₁) to₂
+      took-name source tokens good e (went productions v tokens e fixed a₀ d₁) to₂
 
   -- .. too deep where no level is left
   pub parameter-deep : {n : ℕ} (s : Step) {t : List ℕ} → begins type tokens s ≡ true → n ≡ 0
@@ -75,14 +75,14 @@ module _ (source tokens : List ℕ) (good : Tokens tokens) (e : Names) where
 
   -- IDENT?
   field-name : {n below least more : ℕ} {m : Makes} {ts ss : List Symbol} {s s' s'' : Step} {t t' : List ℕ}
-      → After productions17 v (tokenRoom tokens) e n below m least more ts (part fieldName ∷ ss) s t s' t' → s'' ≡ takenIf tokens ident s'
-      → After productions17 v (tokenRoom tokens) e n below m least more ts ss s t s'' t'
+      → After productions v (tokenRoom tokens) e n below m least more ts (part fieldName ∷ ss) s t s' t' → s'' ≡ takenIf tokens ident s'
+      → After productions v (tokenRoom tokens) e n below m least more ts ss s t s'' t'
   field-name {s' = s'} a =
       took-where source tokens good e ident name-marks
       (λ (h : eqb (nextKind tokens s') ident ≡ true). looked-by source tokens good e (rule fieldName noRow (token name ∷ [])) a
       (λ (j : ℕ) (k : kindOf (v .class e j) ≡ nextKind tokens s').
       fieldName-some v e j (class-low source tokens good e j) (ap (λ (n : ℕ). eqb n ident) k ∙ h)) refl)
-      (λ (h : eqb (nextKind tokens s') ident ≡ false). held productions17 v tokens e (names-fixed source tokens good e)
+      (λ (h : eqb (nextKind tokens s') ident ≡ false). held productions v tokens e (names-fixed source tokens good e)
       (looked-by source tokens good e (rule fieldName noRow (unless anyName ∷ [])) a
       (λ (j : ℕ) (k : kindOf (v .class e j) ≡ nextKind tokens s').
       fieldName-none v e j (class-low source tokens good e j) (ap (λ (n : ℕ). eqb n ident) k ∙ h)) refl)
@@ -98,11 +98,11 @@ module _ (source tokens : List ℕ) (good : Tokens tokens) (e : Names) where
   unfolding levels
   field-read {n} {below} {s} {s₀} {t = t} is within level to₀ d₁ to₂ =
       let fixed = names-fixed source tokens good e in
-      let a₀ : After productions17 v (tokenRoom tokens) e n below (row parameterRow) 0 1 (part field ∷ [])
+      let a₀ : After productions v (tokenRoom tokens) e n below (row parameterRow) 0 1 (part field ∷ [])
       (part type ∷ part fieldName ∷ []) s t s₀ t =
-      rw to₀ (begun-part productions17 v tokens e fixed within level refl
+      rw to₀ (begun-part productions v tokens e fixed within level refl
       (λ (i r : ℕ) (at : s ≡ Read i r). field-is s is i (reached source tokens good e s i r at))) in
-      field-name (went productions17 v tokens e fixed a₀ d₁) to₂
+      field-name (went productions v tokens e fixed a₀ d₁) to₂
 
   -- .. too deep where no level is left
   pub field-deep : {n : ℕ} (s : Step) {t : List ℕ} → begins type tokens s ≡ true → n ≡ 0
@@ -114,34 +114,34 @@ module _ (source tokens : List ℕ) (good : Tokens tokens) (e : Names) where
 
   -- as many parameters as there are
   pub parameters-go : {n : ℕ} {s s' s'' : Step} {t t' t'' : List ℕ}
-      → After productions17 v (tokenRoom tokens) e n n noRow 0 0 (part parameters ∷ []) (part parameters ∷ []) s t s' t'
+      → After productions v (tokenRoom tokens) e n n noRow 0 0 (part parameters ∷ []) (part parameters ∷ []) s t s' t'
       → begins type tokens s' ≡ true → Part n 1 parameter s' t' s'' t''
-      → After productions17 v (tokenRoom tokens) e n n noRow 0 0 (part parameters ∷ []) (part parameters ∷ []) s t s'' t''
+      → After productions v (tokenRoom tokens) e n n noRow 0 0 (part parameters ∷ []) (part parameters ∷ []) s t s'' t''
   parameters-go {s' = s'} a is =
-      list-more productions17 v tokens e (names-fixed source tokens good e) a (λ (j k : ℕ) (read : s' ≡ Read j k).
+      list-more productions v tokens e (names-fixed source tokens good e) a (λ (j k : ℕ) (read : s' ≡ Read j k).
       parameters-more v e j (class-low source tokens good e j) (begins-there source tokens good e type s' is j k read))
 
   pub parameters-end : {n : ℕ} {s s' : Step} {t t' : List ℕ}
-      → After productions17 v (tokenRoom tokens) e n n noRow 0 0 (part parameters ∷ []) (part parameters ∷ []) s t s' t'
+      → After productions v (tokenRoom tokens) e n n noRow 0 0 (part parameters ∷ []) (part parameters ∷ []) s t s' t'
       → begins type tokens s' ≡ false → Part n 0 parameters s t s' t'
   parameters-end {s' = s'} a is =
       let fixed = names-fixed source tokens good e in
-      done productions17 v tokens e fixed (list-done productions17 v tokens e fixed a (λ (j k : ℕ) (read : s' ≡ Read j k).
+      done productions v tokens e fixed (list-done productions v tokens e fixed a (λ (j k : ℕ) (read : s' ≡ Read j k).
       parameters-done v e j (class-low source tokens good e j) (none-there source tokens good e type s' is j k read)))
 
   -- as many fields as there are
   pub fields-go : {n : ℕ} {s s' s'' : Step} {t t' t'' : List ℕ}
-      → After productions17 v (tokenRoom tokens) e n n noRow 0 0 (part fields ∷ []) (part fields ∷ []) s t s' t'
+      → After productions v (tokenRoom tokens) e n n noRow 0 0 (part fields ∷ []) (part fields ∷ []) s t s' t'
       → begins type tokens s' ≡ true → Part n 1 field s' t' s'' t''
-      → After productions17 v (tokenRoom tokens) e n n noRow 0 0 (part fields ∷ []) (part fields ∷ []) s t s'' t''
+      → After productions v (tokenRoom tokens) e n n noRow 0 0 (part fields ∷ []) (part fields ∷ []) s t s'' t''
   fields-go {s' = s'} a is =
-      list-more productions17 v tokens e (names-fixed source tokens good e) a (λ (j k : ℕ) (read : s' ≡ Read j k).
+      list-more productions v tokens e (names-fixed source tokens good e) a (λ (j k : ℕ) (read : s' ≡ Read j k).
       fields-more v e j (class-low source tokens good e j) (begins-there source tokens good e type s' is j k read))
 
   pub fields-end : {n : ℕ} {s s' : Step} {t t' : List ℕ}
-      → After productions17 v (tokenRoom tokens) e n n noRow 0 0 (part fields ∷ []) (part fields ∷ []) s t s' t'
+      → After productions v (tokenRoom tokens) e n n noRow 0 0 (part fields ∷ []) (part fields ∷ []) s t s' t'
       → begins type tokens s' ≡ false → Part n 0 fields s t s' t'
   fields-end {s' = s'} a is =
       let fixed = names-fixed source tokens good e in
-      done productions17 v tokens e fixed (list-done productions17 v tokens e fixed a (λ (j k : ℕ) (read : s' ≡ Read j k).
+      done productions v tokens e fixed (list-done productions v tokens e fixed a (λ (j k : ℕ) (read : s' ≡ Read j k).
       fields-done v e j (class-low source tokens good e j) (none-there source tokens good e type s' is j k read)))

@@ -12,7 +12,7 @@ use Rattle.grammar.specs.Rows.{levels}
 use Rattle.grammar.specs.Reading.{whole}
 use Rattle.grammar.specs.RowKinds.{programRow}
 use Rattle.grammar.specs.Nonterminals.{program, declarations}
-use Rattle.grammar.specs.Nurl.{rule, productions17}
+use Rattle.grammar.specs.Nurl.{rule, productions}
 use Rattle.grammar.specs.Languages.{language17}
 use Rattle.grammar.specs.Sources.{viewOf}
 use Rattle.grammar.specs.Alternatives.{kindOf}
@@ -43,33 +43,33 @@ module _ (source tokens : List ℕ) (good : Tokens tokens) (e : Names) where
 
   -- a row is left for the program
   pub program-begun : {n below : ℕ} {s s₀ : Step} {t : List ℕ} → Within tokens 0 s → n ≡ suc below → s₀ ≡ reserved s
-      → After productions17 v (tokenRoom tokens) e n below (row programRow) 0 1 (part program ∷ []) (part declarations ∷ []) s t s₀ t
+      → After productions v (tokenRoom tokens) e n below (row programRow) 0 1 (part program ∷ []) (part declarations ∷ []) s t s₀ t
   unfolding levels
   program-begun {s = s} within level to₀ =
-      rw to₀ (begun-part productions17 v tokens e (names-fixed source tokens good e) within level refl
+      rw to₀ (begun-part productions v tokens e (names-fixed source tokens good e) within level refl
       (λ (j k : ℕ) (read : s ≡ Read j k). program-one v e j (class-low source tokens good e j)))
 
   pub program-closing : {n below : ℕ} {ss : List Symbol} {s s' : Step} {t t' : List ℕ} → Within tokens 0 s
-      → After productions17 v (tokenRoom tokens) e n below (row programRow) 0 1 (part program ∷ []) ss s t s' t'
+      → After productions v (tokenRoom tokens) e n below (row programRow) 0 1 (part program ∷ []) ss s t s' t'
       → (Small s) × ((Small s') × (Spans s s'))
   program-closing within a =
-      closing-with productions17 v tokens e (names-fixed source tokens good e) (omega arith) good
+      closing-with productions v tokens e (names-fixed source tokens good e) (omega arith) good
       (within-wider tokens within (omega arith)) a
 
   -- .. and put above its declarations
   pub program-closed : {n below : ℕ} {s s' r : Step} {t t' after : List ℕ}
-      → After productions17 v (tokenRoom tokens) e n below (row programRow) 0 1 (part program ∷ []) [] s t s' t'
-      → r ≡ s' → after ≡ closed programRow s s' t' → Reads productions17 v (tokenRoom tokens) e n 0 1 (part program ∷ []) s t r after
-  program-closed a answer table = rw (answer, table) (closes productions17 v tokens e (names-fixed source tokens good e) a)
+      → After productions v (tokenRoom tokens) e n below (row programRow) 0 1 (part program ∷ []) [] s t s' t'
+      → r ≡ s' → after ≡ closed programRow s s' t' → Reads productions v (tokenRoom tokens) e n 0 1 (part program ∷ []) s t r after
+  program-closed a answer table = rw (answer, table) (closes productions v tokens e (names-fixed source tokens good e) a)
 
   -- it is too deep where no level is left
   pub program-deep : {n : ℕ} (s : Step) {t : List ℕ} → n ≡ 0
-      → Reads productions17 v (tokenRoom tokens) e n 0 1 (part program ∷ []) s t (refusedAt 7 s) t
+      → Reads productions v (tokenRoom tokens) e n 0 1 (part program ∷ []) s t (refusedAt 7 s) t
   unfolding levels
   program-deep s spent =
       let fixed = names-fixed source tokens good e in
-      rw spent (deep-at productions17 v tokens e fixed s (λ (j k : ℕ) (read : s ≡ Read j k).
-      gives-deep productions17 v e fixed program j (rule program (row programRow) (part declarations ∷ [])) []
+      rw spent (deep-at productions v tokens e fixed s (λ (j k : ℕ) (read : s ≡ Read j k).
+      gives-deep productions v e fixed program j (rule program (row programRow) (part declarations ∷ [])) []
       (program-one v e j (class-low source tokens good e j)) refl))
 
   -- whether the tokens end at a step
@@ -83,18 +83,18 @@ module _ (source tokens : List ℕ) (good : Tokens tokens) (e : Names) where
 
   -- a whole program ends with the tokens, ..
   pub whole-ends : {n : ℕ} {s s' : Step} {t t' : List ℕ} → Within tokens 0 s
-      → Reads productions17 v (tokenRoom tokens) e n 0 1 (part program ∷ []) s t s' t' → eqb (nextKind tokens s') endOfTokens ≡ true
-      → Reads productions17 v (tokenRoom tokens) e n 0 1 (whole program) s t s' t'
+      → Reads productions v (tokenRoom tokens) e n 0 1 (part program ∷ []) s t s' t' → eqb (nextKind tokens s') endOfTokens ≡ true
+      → Reads productions v (tokenRoom tokens) e n 0 1 (whole program) s t s' t'
   whole-ends {s' = s'} within d is =
       let fixed = names-fixed source tokens good e in
-      let a = went productions17 v tokens e fixed (start productions17 v tokens e fixed within) d in
-      done productions17 v tokens e fixed (held productions17 v tokens e fixed a (end-met true s' is))
+      let a = went productions v tokens e fixed (start productions v tokens e fixed within) d in
+      done productions v tokens e fixed (held productions v tokens e fixed a (end-met true s' is))
 
   -- .. and a token after it is refused
   pub whole-stuck : {n : ℕ} {s s' : Step} {t t' : List ℕ} → Within tokens 0 s
-      → Reads productions17 v (tokenRoom tokens) e n 0 1 (part program ∷ []) s t s' t' → eqb (nextKind tokens s') endOfTokens ≡ false
-      → Reads productions17 v (tokenRoom tokens) e n 0 1 (whole program) s t (refusedAt 6 s') t'
+      → Reads productions v (tokenRoom tokens) e n 0 1 (part program ∷ []) s t s' t' → eqb (nextKind tokens s') endOfTokens ≡ false
+      → Reads productions v (tokenRoom tokens) e n 0 1 (whole program) s t (refusedAt 6 s') t'
   whole-stuck {s' = s'} within d is =
       let fixed = names-fixed source tokens good e in
-      let a = went productions17 v tokens e fixed (start productions17 v tokens e fixed within) d in
-      done productions17 v tokens e fixed (unheld productions17 v tokens e fixed {us = []} a (end-met false s' is))
+      let a = went productions v tokens e fixed (start productions v tokens e fixed within) d in
+      done productions v tokens e fixed (unheld productions v tokens e fixed {us = []} a (end-met false s' is))

@@ -17,7 +17,7 @@ use Rattle.grammar.specs.Grammars.{Symbol, token, part, Makes, row, rowOf, noRo
 use Rattle.grammar.specs.Rows.{levels}
 use Rattle.grammar.specs.Reading.{deep, Choice, none, one, choice}
 use Rattle.grammar.specs.Classes.{name, word, declaredWord}
-use Rattle.grammar.specs.Nurl.{rule, productions17}
+use Rattle.grammar.specs.Nurl.{rule, productions}
 use Rattle.grammar.specs.Languages.{language17}
 use Rattle.grammar.specs.Sources.{viewOf}
 use Rattle.grammar.specs.Alternatives.{kindOf, kindAlternative, nth}
@@ -178,11 +178,11 @@ alternative-shows x test all past k = by (ltb lastKind k) refl
 
 -- where every alternative of a nonterminal from some number on makes a row, each that some token begins does
 pub some-rowed : (x low : ℕ)
-    → below (λ (k : ℕ). implies (ltb low (kindNumber x k)) (rowed (nth x (kindNumber x k) productions17))) classes ≡ true
-    → (k : ℕ) → low < kindAlternative x k → rowed (nth x (kindAlternative x k) productions17) ≡ true
+    → below (λ (k : ℕ). implies (ltb low (kindNumber x k)) (rowed (nth x (kindNumber x k) productions))) classes ≡ true
+    → (k : ℕ) → low < kindAlternative x k → rowed (nth x (kindAlternative x k) productions) ≡ true
 some-rowed x low rows k some =
     implies-true (ltb low (kindAlternative x k)) _
-    (alternative-shows x (λ (k n : ℕ). implies (ltb low n) (rowed (nth x n productions17))) rows
+    (alternative-shows x (λ (k n : ℕ). implies (ltb low n) (rowed (nth x n productions))) rows
     (λ (k : ℕ). implies-by (ltb low 0) _ (λ (h : ltb low 0 ≡ true). let no = ltb-true low 0 h in absurd (omega arith))) k)
     (lt-ltb low (kindAlternative x k) some)
 
@@ -248,27 +248,27 @@ module _ (source tokens : List ℕ) (good : Tokens tokens) (e : Names) where
 
   -- .. and which alternative
   pub alternative-is : {a : ℕ} (x : ℕ)
-      → ((j : ℕ) → choice productions17 v e x j ≡ nth x (kindAlternative x (kindOf (class j))) productions17)
+      → ((j : ℕ) → choice productions v e x j ≡ nth x (kindAlternative x (kindOf (class j))) productions)
       → (s : Step) → kindAlternative x (nextKind tokens s) ≡ a
-      → (j : ℕ) → kindOf (class j) ≡ nextKind tokens s → choice productions17 v e x j ≡ nth x a productions17
-  alternative-is x chosen s is j k = chosen j ∙ ap (λ (n : ℕ). nth x n productions17) (ap (kindAlternative x) k ∙ is)
+      → (j : ℕ) → kindOf (class j) ≡ nextKind tokens s → choice productions v e x j ≡ nth x a productions
+  alternative-is x chosen s is j k = chosen j ∙ ap (λ (n : ℕ). nth x n productions) (ap (kindAlternative x) k ∙ is)
 
   -- no token begins this: it is refused
   pub none-stuck : {n x : ℕ} (s : Step) {t : List ℕ}
-      → ((j : ℕ) → kindOf (class j) ≡ nextKind tokens s → choice productions17 v e x j ≡ none)
-      → Reads productions17 v (tokenRoom tokens) e n 1 0 (part x ∷ []) s t (refusedAt 6 s) t
+      → ((j : ℕ) → kindOf (class j) ≡ nextKind tokens s → choice productions v e x j ≡ none)
+      → Reads productions v (tokenRoom tokens) e n 1 0 (part x ∷ []) s t (refusedAt 6 s) t
   none-stuck s chosen =
-      stuck-at productions17 v tokens e (names-fixed source tokens good e) s (λ (j k : ℕ) (is : s ≡ Read j k). chosen j (reached s j k
+      stuck-at productions v tokens e (names-fixed source tokens good e) s (λ (j k : ℕ) (is : s ≡ Read j k). chosen j (reached s j k
       is))
 
   -- a row is called for and no level is left: it is too deep
   pub row-deep : {n x : ℕ} (s : Step) {t : List ℕ} (c : Choice) → n ≡ 0 → rowed c ≡ true
-      → ((j : ℕ) → kindOf (class j) ≡ nextKind tokens s → choice productions17 v e x j ≡ c)
-      → Reads productions17 v (tokenRoom tokens) e n 1 0 (part x ∷ []) s t (refusedAt 7 s) t
+      → ((j : ℕ) → kindOf (class j) ≡ nextKind tokens s → choice productions v e x j ≡ c)
+      → Reads productions v (tokenRoom tokens) e n 1 0 (part x ∷ []) s t (refusedAt 7 s) t
   row-deep {x = x} s c spent rows chosen =
       let fixed = names-fixed source tokens good e in
-      rw spent (deep-at productions17 v tokens e fixed s (λ (j k : ℕ) (is : s ≡ Read j k).
-      rowed-deep productions17 v e fixed x j c (chosen j (reached s j k is)) rows))
+      rw spent (deep-at productions v tokens e fixed s (λ (j k : ℕ) (is : s ≡ Read j k).
+      rowed-deep productions v e fixed x j c (chosen j (reached s j k is)) rows))
 
   opened-both : (test : ℕ → Bool) (cs : List ℕ) (s : Step) → opensWith test cs ≡ true → test (nextKind tokens s) ≡ true
       → (j k : ℕ) → s ≡ Read j k → and (among cs (class j)) (ltb 0 (kindOf (class j))) ≡ true
@@ -288,34 +288,34 @@ module _ (source tokens : List ℕ) (good : Tokens tokens) (e : Names) where
   -- a production that makes a row is begun with its token
   pub begun-by : {n below x : ℕ} {m : Makes} {cs : List ℕ} {ss : List Symbol} {s s₀ : Step} {t : List ℕ} (test : ℕ → Bool)
       → opensWith test cs ≡ true
-      → ((j : ℕ) → test (kindOf (class j)) ≡ true → choice productions17 v e x j ≡ one (rule x m (token cs ∷ ss)))
+      → ((j : ℕ) → test (kindOf (class j)) ≡ true → choice productions v e x j ≡ one (rule x m (token cs ∷ ss)))
       → test (nextKind tokens s) ≡ true → Within tokens 1 s → n ≡ suc below → levels m ≡ 1 → s₀ ≡ opened s
-      → After productions17 v (tokenRoom tokens) e n below m 1 0 (part x ∷ []) ss s t s₀ t
+      → After productions v (tokenRoom tokens) e n below m 1 0 (part x ∷ []) ss s t s₀ t
   begun-by {cs = cs} {s = s} test opens chosen passes within level makes to =
-      rw to (begun productions17 v tokens e (names-fixed source tokens good e) within level makes
+      rw to (begun productions v tokens e (names-fixed source tokens good e) within level makes
       (λ (i r : ℕ) (is : s ≡ Read i r). chosen i (ap test (reached s i r is) ∙ passes))
       (λ (i r : ℕ) (is : s ≡ Read i r). and-left (among cs (class i)) _ (opened-both test cs s opens passes i r is))
       (opened-inside test cs s opens passes))
 
   -- .. which is a mark, ..
   pub begun-mark : {n below x : ℕ} (kind : ℕ) {m : Makes} {ss : List Symbol} {s s₀ : Step} {t : List ℕ} → between 2 lastKind kind ≡ true
-      → ((j : ℕ) → kindOf (class j) ≡ kind → choice productions17 v e x j ≡ one (rule x m (token (kind ∷ []) ∷ ss)))
+      → ((j : ℕ) → kindOf (class j) ≡ kind → choice productions v e x j ≡ one (rule x m (token (kind ∷ []) ∷ ss)))
       → nextKind tokens s ≡ kind → Within tokens 1 s → n ≡ suc below → levels m ≡ 1 → s₀ ≡ opened s
-      → After productions17 v (tokenRoom tokens) e n below m 1 0 (part x ∷ []) ss s t s₀ t
+      → After productions v (tokenRoom tokens) e n below m 1 0 (part x ∷ []) ss s t s₀ t
   begun-mark kind is chosen begins =
       begun-by (λ (k : ℕ). eqb k kind) (mark-opens kind is)
       (λ (j : ℕ) (h : eqb (kindOf (class j)) kind ≡ true). chosen j (eqb-true _ _ h)) (eq-eqb _ _ begins)
 
   -- .. by the number of its alternative
   pub begun-at : {n below x number : ℕ} {m : Makes} {cs : List ℕ} {ss : List Symbol} {s s₀ : Step} {t : List ℕ}
-      → ((j : ℕ) → choice productions17 v e x j ≡ nth x (kindAlternative x (kindOf (class j))) productions17)
-      → nth x number productions17 ≡ one (rule x m (token cs ∷ ss)) → opensWith (λ (k : ℕ). eqb (kindAlternative x k) number) cs ≡ true
+      → ((j : ℕ) → choice productions v e x j ≡ nth x (kindAlternative x (kindOf (class j))) productions)
+      → nth x number productions ≡ one (rule x m (token cs ∷ ss)) → opensWith (λ (k : ℕ). eqb (kindAlternative x k) number) cs ≡ true
       → kindAlternative x (nextKind tokens s) ≡ number → Within tokens 1 s → n ≡ suc below → levels m ≡ 1 → s₀ ≡ opened s
-      → After productions17 v (tokenRoom tokens) e n below m 1 0 (part x ∷ []) ss s t s₀ t
+      → After productions v (tokenRoom tokens) e n below m 1 0 (part x ∷ []) ss s t s₀ t
   begun-at {x = x} {number = number} chosen is opens begins within level makes to =
       begun-by (λ (k : ℕ). eqb (kindAlternative x k) number) opens
       (λ (j : ℕ) (h : eqb (kindAlternative x (kindOf (class j))) number ≡ true).
-      chosen j ∙ ap (λ (n : ℕ). nth x n productions17) (eqb-true _ _ h) ∙ is)
+      chosen j ∙ ap (λ (n : ℕ). nth x n productions) (eqb-true _ _ h) ∙ is)
       (eq-eqb _ _ begins) within level makes to
 
   -- the classes of a kind
@@ -327,33 +327,33 @@ module _ (source tokens : List ℕ) (good : Tokens tokens) (e : Names) where
 
   -- a token of a kind is taken
   pub took-kind : {n below least more : ℕ} (kind : ℕ) {m : Makes} {cs : List ℕ} {ts ss : List Symbol} {s s' s'' : Step} {t t' : List ℕ}
-      → After productions17 v (tokenRoom tokens) e n below m least more ts (token cs ∷ ss) s t s' t' → marks cs kind ≡ true
-      → s'' ≡ taken tokens kind s' → After productions17 v (tokenRoom tokens) e n below m (least + 1) more ts ss s t s'' t'
+      → After productions v (tokenRoom tokens) e n below m least more ts (token cs ∷ ss) s t s' t' → marks cs kind ≡ true
+      → s'' ≡ taken tokens kind s' → After productions v (tokenRoom tokens) e n below m (least + 1) more ts ss s t s'' t'
   unfolding marks
   took-kind kind {cs = cs} a is to =
-      rw to (took productions17 v tokens e (names-fixed source tokens good e) (λ (j : ℕ). eqb (kindAt tokens j) kind) a
+      rw to (took productions v tokens e (names-fixed source tokens good e) (λ (j : ℕ). eqb (kindAt tokens j) kind) a
       (λ (j : ℕ). class-marks kind cs is j ∙ ap (λ (n : ℕ). eqb n kind) (class-kind source tokens good e j))
       (kind-room tokens kind (ltb-true 0 kind (and-left (ltb 0 kind) _ is))))
 
   -- .. a mark, ..
   pub took-mark : {n below least more : ℕ} (kind : ℕ) {m : Makes} {ts ss : List Symbol} {s s' s'' : Step} {t t' : List ℕ}
-      → After productions17 v (tokenRoom tokens) e n below m least more ts (token (kind ∷ []) ∷ ss) s t s' t'
+      → After productions v (tokenRoom tokens) e n below m least more ts (token (kind ∷ []) ∷ ss) s t s' t'
       → between 2 lastKind kind ≡ true
-      → s'' ≡ taken tokens kind s' → After productions17 v (tokenRoom tokens) e n below m (least + 1) more ts ss s t s'' t'
+      → s'' ≡ taken tokens kind s' → After productions v (tokenRoom tokens) e n below m (least + 1) more ts ss s t s'' t'
   took-mark kind a is = took-kind kind a (mark-marks kind is)
 
   -- .. a name
   pub took-name : {n below least more : ℕ} {m : Makes} {ts ss : List Symbol} {s s' s'' : Step} {t t' : List ℕ}
-      → After productions17 v (tokenRoom tokens) e n below m least more ts (token name ∷ ss) s t s' t'
-      → s'' ≡ taken tokens ident s' → After productions17 v (tokenRoom tokens) e n below m (least + 1) more ts ss s t s'' t'
+      → After productions v (tokenRoom tokens) e n below m least more ts (token name ∷ ss) s t s' t'
+      → s'' ≡ taken tokens ident s' → After productions v (tokenRoom tokens) e n below m (least + 1) more ts ss s t s'' t'
   took-name a = took-kind ident a name-marks
 
   -- .. or a word
   pub took-word : {n below least more : ℕ} (keywords : Bool) {m : Makes} {ts ss : List Symbol} {s s' s'' : Step} {t t' : List ℕ}
-      → After productions17 v (tokenRoom tokens) e n below m least more ts (token (pick keywords word declaredWord) ∷ ss) s t s' t'
-      → s'' ≡ takenWord tokens keywords s' → After productions17 v (tokenRoom tokens) e n below m (least + 1) more ts ss s t s'' t'
+      → After productions v (tokenRoom tokens) e n below m least more ts (token (pick keywords word declaredWord) ∷ ss) s t s' t'
+      → s'' ≡ takenWord tokens keywords s' → After productions v (tokenRoom tokens) e n below m (least + 1) more ts ss s t s'' t'
   took-word keywords a to =
-      rw to (took productions17 v tokens e (names-fixed source tokens good e) (λ (j : ℕ). among (wordKinds keywords) (kindAt tokens j)) a
+      rw to (took productions v tokens e (names-fixed source tokens good e) (λ (j : ℕ). among (wordKinds keywords) (kindAt tokens j)) a
       (λ (j : ℕ).
       agrees-same _ _ (class-shows source tokens good e
       (λ (c : ℕ). agrees (among (pick keywords word declaredWord) c) (among (wordKinds keywords) (kindOf c))) (words17 keywords) j)
@@ -362,31 +362,31 @@ module _ (source tokens : List ℕ) (good : Tokens tokens) (e : Names) where
 
   -- a nonterminal that makes no row is looked through ..
   pub looked-by : {n below least more y : ℕ} {m : Makes} (q : Production) {ts ss : List Symbol} {s s' : Step} {t t' : List ℕ}
-      → After productions17 v (tokenRoom tokens) e n below m least more ts (part y ∷ ss) s t s' t'
-      → ((j : ℕ) → kindOf (class j) ≡ nextKind tokens s' → choice productions17 v e y j ≡ one q) → q .makes ≡ noRow
-      → After productions17 v (tokenRoom tokens) e n below m least more ts (q .right ++ ss) s t s' t'
+      → After productions v (tokenRoom tokens) e n below m least more ts (part y ∷ ss) s t s' t'
+      → ((j : ℕ) → kindOf (class j) ≡ nextKind tokens s' → choice productions v e y j ≡ one q) → q .makes ≡ noRow
+      → After productions v (tokenRoom tokens) e n below m least more ts (q .right ++ ss) s t s' t'
   looked-by q {s' = s'} a chosen rowless =
-      looked productions17 v tokens e (names-fixed source tokens good e) a
+      looked productions v tokens e (names-fixed source tokens good e) a
       (λ (j k : ℕ) (is : s' ≡ Read j k). takes (chosen j (reached s' j k is))) rowless
 
   -- .. or says the kind of the row
   pub spoken-by : {n below least more y kind : ℕ} (q : Production) {ts : List Symbol} {s s' : Step} {t t' : List ℕ}
-      → After productions17 v (tokenRoom tokens) e n below rowOf least more ts (part y ∷ []) s t s' t'
-      → ((j : ℕ) → kindOf (class j) ≡ nextKind tokens s' → choice productions17 v e y j ≡ one q) → q .makes ≡ says kind
-      → After productions17 v (tokenRoom tokens) e n below (row kind) least more ts (q .right) s t s' t'
+      → After productions v (tokenRoom tokens) e n below rowOf least more ts (part y ∷ []) s t s' t'
+      → ((j : ℕ) → kindOf (class j) ≡ nextKind tokens s' → choice productions v e y j ≡ one q) → q .makes ≡ says kind
+      → After productions v (tokenRoom tokens) e n below (row kind) least more ts (q .right) s t s' t'
   spoken-by q {s' = s'} a chosen speaks =
-      spoken productions17 v tokens e (names-fixed source tokens good e) a
+      spoken productions v tokens e (names-fixed source tokens good e) a
       (λ (j k : ℕ) (is : s' ≡ Read j k). takes (chosen j (reached s' j k is))) speaks
 
   -- an alternative that is another nonterminal is what that is
   pub passes-on : {n y number : ℕ} (x : ℕ) {s s' : Step} {t t' : List ℕ}
-      → ((j : ℕ) → choice productions17 v e x j ≡ nth x (kindAlternative x (kindOf (class j))) productions17)
-      → nth x number productions17 ≡ one (rule x noRow (part y ∷ []))
+      → ((j : ℕ) → choice productions v e x j ≡ nth x (kindAlternative x (kindOf (class j))) productions)
+      → nth x number productions ≡ one (rule x noRow (part y ∷ []))
       → kindAlternative x (nextKind tokens s) ≡ number → Within tokens 1 s
-      → Reads productions17 v (tokenRoom tokens) e n 1 0 (part y ∷ []) s t s' t'
-      → Reads productions17 v (tokenRoom tokens) e n 1 0 (part x ∷ []) s t s' t'
+      → Reads productions v (tokenRoom tokens) e n 1 0 (part y ∷ []) s t s' t'
+      → Reads productions v (tokenRoom tokens) e n 1 0 (part x ∷ []) s t s' t'
   passes-on {y = y} x {s = s} chosen is begins within d =
       let fixed = names-fixed source tokens good e in
-      let a = looked-by (rule x noRow (part y ∷ [])) (start productions17 v tokens e fixed within)
+      let a = looked-by (rule x noRow (part y ∷ [])) (start productions v tokens e fixed within)
       (λ j k. alternative-is x chosen s begins j k ∙ is) refl in
-      done productions17 v tokens e fixed (went productions17 v tokens e fixed a d)
+      done productions v tokens e fixed (went productions v tokens e fixed a d)

@@ -17,7 +17,7 @@ use Rattle.grammar.specs.RowKinds.{blockRow, letRow, setNameRow, setElementRow,
 use Rattle.grammar.specs.Nonterminals.{block, statements, statement, binding, assignment, tildeStatement, loopOrComplement}
 use Rattle.grammar.specs.Nonterminals.{expression, type}
 use Rattle.grammar.specs.Classes.{name}
-use Rattle.grammar.specs.Nurl.{rule, productions17, plainName, aTilde, aBrace, twoNames}
+use Rattle.grammar.specs.Nurl.{rule, productions, plainName, aTilde, aBrace, twoNames}
 use Rattle.grammar.specs.Nurl.{one as only}
 use Rattle.grammar.specs.Languages.{language17}
 use Rattle.grammar.specs.Sources.{viewOf}
@@ -55,9 +55,9 @@ tilde-statement = rw (← kind-same) refl
 
 -- every alternative of a statement but the first makes a row
 statement-rows :
-    below (λ (k : ℕ). implies (ltb 1 (kindNumber statement k)) (rowed (nth statement (kindNumber statement k) productions17))) classes
+    below (λ (k : ℕ). implies (ltb 1 (kindNumber statement k)) (rowed (nth statement (kindNumber statement k) productions))) classes
     ≡ true
-unfolding below implies and rowed levels nth productions17 kindNumber
+unfolding below implies and rowed levels nth productions kindNumber
 statement-rows = refl
 
 -- there are five
@@ -73,21 +73,21 @@ module _ (source tokens : List ℕ) (good : Tokens tokens) (e : Names) where
   v = viewOf language17 source (rowsOf tokens)
 
   abbrev Under : ℕ → ℕ → ℕ → Makes → ℕ → List Symbol → Step → List ℕ → Step → List ℕ → Type 0
-  Under x n below m least ss = After productions17 v (tokenRoom tokens) e n below m least 0 (part x ∷ []) ss
+  Under x n below m least ss = After productions v (tokenRoom tokens) e n below m least 0 (part x ∷ []) ss
 
   abbrev Part : ℕ → ℕ → ℕ → Step → List ℕ → Step → List ℕ → Type 0
-  Part n least x = Reads productions17 v (tokenRoom tokens) e n least 0 (part x ∷ [])
+  Part n least x = Reads productions v (tokenRoom tokens) e n least 0 (part x ∷ [])
 
   -- `{` statement* `}`
   pub block-whole : {n below : ℕ} {s s₀ s₁ s₂ : Step} {t t₁ : List ℕ} → eqb (nextKind tokens s) leftBrace ≡ true
       → Within tokens 1 s → n ≡ suc below → s₀ ≡ opened s
       → Part below 0 statements s₀ t s₁ t₁ → s₂ ≡ taken tokens rightBrace s₁
-      → After productions17 v (tokenRoom tokens) e n below (row blockRow) 2 0 (part block ∷ []) [] s t s₂ t₁
+      → After productions v (tokenRoom tokens) e n below (row blockRow) 2 0 (part block ∷ []) [] s t s₂ t₁
   unfolding levels between and
   block-whole is within level to₀ d₁ to₂ =
       let a₀ = begun-mark source tokens good e leftBrace refl (λ j. block-one v e j (class-low source tokens good e j))
       (eqb-true _ _ is) within level refl to₀ in
-      took-mark source tokens good e rightBrace (went productions17 v tokens e (names-fixed source tokens good e) a₀ d₁) refl to₂
+      took-mark source tokens good e rightBrace (went productions v tokens e (names-fixed source tokens good e) a₀ d₁) refl to₂
 
   -- another token is refused
   pub block-stuck : {n : ℕ} (s : Step) {t : List ℕ} → eqb (nextKind tokens s) leftBrace ≡ false
@@ -107,24 +107,24 @@ module _ (source tokens : List ℕ) (good : Tokens tokens) (e : Names) where
 
   -- as many statements as there are
   pub statements-go : {n : ℕ} {s s' s'' : Step} {t t' t'' : List ℕ}
-      → After productions17 v (tokenRoom tokens) e n n noRow 0 0 (part statements ∷ []) (part statements ∷ []) s t s' t'
+      → After productions v (tokenRoom tokens) e n n noRow 0 0 (part statements ∷ []) (part statements ∷ []) s t s' t'
       → begins statement tokens s' ≡ true
       → Part n 1 statement s' t' s'' t''
-      → After productions17 v (tokenRoom tokens) e n n noRow 0 0 (part statements ∷ []) (part statements ∷ []) s t s'' t''
+      → After productions v (tokenRoom tokens) e n n noRow 0 0 (part statements ∷ []) (part statements ∷ []) s t s'' t''
   statements-go {s' = s'} a is =
-      list-more productions17 v tokens e (names-fixed source tokens good e) a (λ (j k : ℕ) (read : s' ≡ Read j k).
+      list-more productions v tokens e (names-fixed source tokens good e) a (λ (j k : ℕ) (read : s' ≡ Read j k).
       statements-more v e j (class-low source tokens good e j) (begins-there source tokens good e statement s' is j k read))
 
   pub statements-end : {n : ℕ} {s s' : Step} {t t' : List ℕ}
-      → After productions17 v (tokenRoom tokens) e n n noRow 0 0 (part statements ∷ []) (part statements ∷ []) s t s' t'
+      → After productions v (tokenRoom tokens) e n n noRow 0 0 (part statements ∷ []) (part statements ∷ []) s t s' t'
       → begins statement tokens s' ≡ false → Part n 0 statements s t s' t'
   statements-end {s' = s'} a is =
       let fixed = names-fixed source tokens good e in
-      done productions17 v tokens e fixed (list-done productions17 v tokens e fixed a (λ (j k : ℕ) (read : s' ≡ Read j k).
+      done productions v tokens e fixed (list-done productions v tokens e fixed a (λ (j k : ℕ) (read : s' ≡ Read j k).
       statements-done v e j (class-low source tokens good e j) (none-there source tokens good e statement s' is j k read)))
 
   statement-choice : (j : ℕ)
-      → choice productions17 v e statement j ≡ nth statement (kindAlternative statement (kindOf (v .class e j))) productions17
+      → choice productions v e statement j ≡ nth statement (kindAlternative statement (kindOf (v .class e j))) productions
   statement-choice j = statement-at v e j (class-low source tokens good e j)
 
   -- a token that begins no statement is refused
@@ -137,7 +137,7 @@ module _ (source tokens : List ℕ) (good : Tokens tokens) (e : Names) where
   pub statement-deep : {n : ℕ} (s : Step) {t : List ℕ} → 1 < kindAlternative statement (nextKind tokens s) → n ≡ 0
       → Part n 1 statement s t (refusedAt 7 s) t
   statement-deep s some spent =
-      row-deep source tokens good e s (nth statement (kindAlternative statement (nextKind tokens s)) productions17) spent
+      row-deep source tokens good e s (nth statement (kindAlternative statement (nextKind tokens s)) productions) spent
       (some-rowed statement 1 statement-rows (nextKind tokens s) some)
       (alternative-is source tokens good e statement statement-choice s refl)
 
@@ -156,16 +156,16 @@ module _ (source tokens : List ℕ) (good : Tokens tokens) (e : Names) where
   statement-expression {s = s} begins within d =
       let fixed = names-fixed source tokens good e in
       let a = looked-by source tokens good e (rule statement noRow (unless aTilde ∷ part expression ∷ []))
-      (start productions17 v tokens e fixed within)
+      (start productions v tokens e fixed within)
       (λ j k. alternative-is source tokens good e statement statement-choice s begins j k ∙ alternatives.statement-expression) refl in
-      let b = held productions17 v tokens e fixed a (λ (j k : ℕ) (is : s ≡ Read j k).
+      let b = held productions v tokens e fixed a (λ (j k : ℕ) (is : s ≡ Read j k).
       no-tilde j (ap (kindAlternative statement) (reached source tokens good e s j k is) ∙ begins)
       (eqb (kindOf (v .class e j)) tilde) refl) in
-      done productions17 v tokens e fixed (went productions17 v tokens e fixed b d)
+      done productions v tokens e fixed (went productions v tokens e fixed b d)
 
   -- an alternative that makes a row is begun with its token
   statement-begun : {n below : ℕ} (number : ℕ) {m : Makes} {cs : List ℕ} {ss : List Symbol} {s s₀ : Step} {t : List ℕ}
-      → nth statement number productions17 ≡ one (rule statement m (token cs ∷ ss)) → Begins statement number cs
+      → nth statement number productions ≡ one (rule statement m (token cs ∷ ss)) → Begins statement number cs
       → kindAlternative statement (nextKind tokens s) ≡ number → Within tokens 1 s → n ≡ suc below → levels m ≡ 1
       → s₀ ≡ opened s → Under statement n below m 1 ss s t s₀ t
   statement-begun number is opens = begun-at source tokens good e statement-choice is opens
@@ -189,14 +189,14 @@ module _ (source tokens : List ℕ) (good : Tokens tokens) (e : Names) where
       → Under statement n below (row letRow) 3 [] s t s₃ t₃
   let-plain {s₁ = s₁} begins within level to₀ to₁ is to₂ d₃ =
       let fixed = names-fixed source tokens good e in
-      let a = looked productions17 v tokens e fixed (let-begun begins within level to₀ to₁)
+      let a = looked productions v tokens e fixed (let-begun begins within level to₀ to₁)
       (λ (j k : ℕ) (at : s₁ ≡ Read j k).
       takes (binding-named v e j (class-low source tokens good e j) (plain-class source tokens e true s₁ is j k at))) refl in
-      let b = held productions17 v tokens e fixed a (met-here source tokens e plainName s₁ true is) in
-      went productions17 v tokens e fixed (took-name source tokens good e b to₂) d₃
+      let b = held productions v tokens e fixed a (met-here source tokens e plainName s₁ true is) in
+      went productions v tokens e fixed (took-name source tokens good e b to₂) d₃
 
   typed-takes : (s : Step) → askedAt plainName source tokens e s ≡ false → (j k : ℕ) → s ≡ Read j k
-      → Takes productions17 v e binding (rule binding noRow (unless plainName ∷ part type ∷ token name ∷ part expression ∷ [])) j
+      → Takes productions v e binding (rule binding noRow (unless plainName ∷ part type ∷ token name ∷ part expression ∷ [])) j
   unfolding nth
   typed-takes s not j k at = by (kindAlternative type (kindOf (v .class e j))) refl
     where
@@ -204,7 +204,7 @@ module _ (source tokens : List ℕ) (good : Tokens tokens) (e : Names) where
       low = class-low source tokens good e j
 
       by : (n : ℕ) → kindAlternative type (kindOf (v .class e j)) ≡ n
-          → Takes productions17 v e binding (rule binding noRow (unless plainName ∷ part type ∷ token name ∷ part expression ∷ [])) j
+          → Takes productions v e binding (rule binding noRow (unless plainName ∷ part type ∷ token name ∷ part expression ∷ [])) j
       by zero h =
           vain (binding-none v e j low (plain-class source tokens e false s not j k at) h)
           (barred-condition (barred-part (type-none source tokens good e j h)))
@@ -219,10 +219,10 @@ module _ (source tokens : List ℕ) (good : Tokens tokens) (e : Names) where
       → Under statement n below (row letRow) 4 [] s t s₄ t₄
   let-typed {s₁ = s₁} begins within level to₀ to₁ not d₂ to₃ d₄ =
       let fixed = names-fixed source tokens good e in
-      let a = looked productions17 v tokens e fixed (let-begun begins within level to₀ to₁) (typed-takes s₁ not) refl in
-      let b = held productions17 v tokens e fixed a (met-here source tokens e plainName s₁ false not) in
-      let c = took-name source tokens good e (went productions17 v tokens e fixed b d₂) to₃ in
-      went productions17 v tokens e fixed c d₄
+      let a = looked productions v tokens e fixed (let-begun begins within level to₀ to₁) (typed-takes s₁ not) refl in
+      let b = held productions v tokens e fixed a (met-here source tokens e plainName s₁ false not) in
+      let c = took-name source tokens good e (went productions v tokens e fixed b d₂) to₃ in
+      went productions v tokens e fixed c d₄
 
   -- `=` `.` expression expression expression
   pub set-element : {n below : ℕ} {s s₀ s₁ s₂ s₃ s₄ : Step} {t t₂ t₃ t₄ : List ℕ} → kindAlternative statement (nextKind tokens s) ≡ 3
@@ -239,18 +239,18 @@ module _ (source tokens : List ℕ) (good : Tokens tokens) (e : Names) where
       (rule assignment (says setElementRow) (only dot ∷ part expression ∷ part expression ∷ part expression ∷ [])) a₀
       (λ j k. assignment-setElement v e j (class-low source tokens good e j) (k ∙ eqb-true (nextKind tokens s₀) dot is)) refl in
       let a₁ = took-mark source tokens good e dot said refl to₁ in
-      let a₃ = went productions17 v tokens e fixed (went productions17 v tokens e fixed a₁ d₂) d₃ in
-      went productions17 v tokens e fixed a₃ d₄
+      let a₃ = went productions v tokens e fixed (went productions v tokens e fixed a₁ d₂) d₃ in
+      went productions v tokens e fixed a₃ d₄
 
   name-takes : (s : Step) → eqb (nextKind tokens s) dot ≡ false → (j : ℕ) → kindOf (v .class e j) ≡ nextKind tokens s
-      → Takes productions17 v e assignment (rule assignment (says setNameRow) (token name ∷ part expression ∷ [])) j
+      → Takes productions v e assignment (rule assignment (says setNameRow) (token name ∷ part expression ∷ [])) j
   name-takes s not j k = by (eqb (kindOf (v .class e j)) ident) refl
     where
       low : v .class e j < classes
       low = class-low source tokens good e j
 
       by : (b : Bool) → eqb (kindOf (v .class e j)) ident ≡ b
-          → Takes productions17 v e assignment (rule assignment (says setNameRow) (token name ∷ part expression ∷ [])) j
+          → Takes productions v e assignment (rule assignment (says setNameRow) (token name ∷ part expression ∷ [])) j
       by true h = takes (assignment-setName v e j low (eqb-true _ _ h))
       by false h =
           vain (assignment-none v e j low h (ap (λ (n : ℕ). eqb n dot) k ∙ not))
@@ -265,9 +265,9 @@ module _ (source tokens : List ℕ) (good : Tokens tokens) (e : Names) where
   set-name {s₀ = s₀} begins within level to₀ not to₁ d₂ =
       let fixed = names-fixed source tokens good e in
       let a₀ = statement-begun 3 statement-assignment statement-assignment-begins begins within level refl to₀ in
-      let said = spoken productions17 v tokens e fixed a₀
+      let said = spoken productions v tokens e fixed a₀
       (λ (j k : ℕ) (is : s₀ ≡ Read j k). name-takes s₀ not j (reached source tokens good e s₀ j k is)) refl in
-      went productions17 v tokens e fixed (took-name source tokens good e said to₁) d₂
+      went productions v tokens e fixed (took-name source tokens good e said to₁) d₂
 
   -- `;` block
   pub defer-block : {n below : ℕ} {s s₀ s₁ : Step} {t t₁ : List ℕ} → kindAlternative statement (nextKind tokens s) ≡ 4
@@ -276,7 +276,7 @@ module _ (source tokens : List ℕ) (good : Tokens tokens) (e : Names) where
       → Under statement n below (row deferRow) 2 [] s t s₁ t₁
   unfolding levels
   defer-block begins within level to₀ d₁ =
-      went productions17 v tokens e (names-fixed source tokens good e)
+      went productions v tokens e (names-fixed source tokens good e)
       (statement-begun 4 statement-defer statement-defer-begins begins within level refl to₀) d₁
 
   -- of two names the next token is one
@@ -297,15 +297,15 @@ module _ (source tokens : List ℕ) (good : Tokens tokens) (e : Names) where
   for-each {s₀ = s₀} begins within level to₀ is to₁ d₂ d₃ =
       let fixed = names-fixed source tokens good e in
       let a₀ = statement-begun 5 statement-tilde statement-tilde-begins begins within level refl to₀ in
-      let said = spoken productions17 v tokens e fixed a₀ (λ (j k : ℕ) (at : s₀ ≡ Read j k).
+      let said = spoken productions v tokens e fixed a₀ (λ (j k : ℕ) (at : s₀ ≡ Read j k).
       takes (tildeStatement-foreach v e j (class-low source tokens good e j)
       (asked-here source tokens e (query twoNames) s₀ true is j k at) (two-first s₀ is j k at))) refl in
-      let b = held productions17 v tokens e fixed said (met-here source tokens e (query twoNames) s₀ true is) in
-      let c = went productions17 v tokens e fixed (took-name source tokens good e b to₁) d₂ in
-      went productions17 v tokens e fixed c d₃
+      let b = held productions v tokens e fixed said (met-here source tokens e (query twoNames) s₀ true is) in
+      let c = went productions v tokens e fixed (took-name source tokens good e b to₁) d₂ in
+      went productions v tokens e fixed c d₃
 
   other-takes : (s : Step) → askedAt (query twoNames) source tokens e s ≡ false → (j k : ℕ) → s ≡ Read j k
-      → Takes productions17 v e tildeStatement
+      → Takes productions v e tildeStatement
       (rule tildeStatement noRow (unless (query twoNames) ∷ part expression ∷ part loopOrComplement ∷ [])) j
   unfolding nth asked
   other-takes s not j k at = by (kindAlternative expression (kindOf (v .class e j))) refl
@@ -317,11 +317,11 @@ module _ (source tokens : List ℕ) (good : Tokens tokens) (e : Names) where
       answer = asked-here source tokens e (query twoNames) s false not j k at
 
       by : (n : ℕ) → kindAlternative expression (kindOf (v .class e j)) ≡ n
-          → Takes productions17 v e tildeStatement
+          → Takes productions v e tildeStatement
           (rule tildeStatement noRow (unless (query twoNames) ∷ part expression ∷ part loopOrComplement ∷ [])) j
       by zero h =
           vain (tildeStatement-none v e j low answer h)
-          (barred-condition (barred-part (expression-at v e j low ∙ ap (λ (n : ℕ). nth expression n productions17) h)))
+          (barred-condition (barred-part (expression-at v e j low ∙ ap (λ (n : ℕ). nth expression n productions) h)))
       by (suc n) h = takes (tildeStatement-other v e j low answer h)
 
   -- `~` expression, and a block where there is one
@@ -333,9 +333,9 @@ module _ (source tokens : List ℕ) (good : Tokens tokens) (e : Names) where
   tilde-begun {s₀ = s₀} begins within level to₀ not d₁ =
       let fixed = names-fixed source tokens good e in
       let a₀ = statement-begun 5 statement-tilde statement-tilde-begins begins within level refl to₀ in
-      let a = looked productions17 v tokens e fixed a₀ (other-takes s₀ not) refl in
-      went productions17 v tokens e fixed
-      (held productions17 v tokens e fixed a (met-here source tokens e (query twoNames) s₀ false not)) d₁
+      let a = looked productions v tokens e fixed a₀ (other-takes s₀ not) refl in
+      went productions v tokens e fixed
+      (held productions v tokens e fixed a (met-here source tokens e (query twoNames) s₀ false not)) d₁
 
   -- `~` expression block
   pub while-loop : {n below : ℕ} {s s₀ s₁ s₂ : Step} {t t₁ t₂ : List ℕ} → kindAlternative statement (nextKind tokens s) ≡ 5
@@ -348,7 +348,7 @@ module _ (source tokens : List ℕ) (good : Tokens tokens) (e : Names) where
       let said = spoken-by source tokens good e (rule loopOrComplement (says whileRow) (part block ∷ []))
       (tilde-begun begins within level to₀ not d₁)
       (λ j k. loopOrComplement-some v e j (class-low source tokens good e j) (ap (λ (n : ℕ). eqb n leftBrace) k ∙ is)) refl in
-      went productions17 v tokens e (names-fixed source tokens good e) said d₂
+      went productions v tokens e (names-fixed source tokens good e) said d₂
 
   -- `~` expression
   pub tilde-complement : {n below : ℕ} {s s₀ s₁ : Step} {t t₁ : List ℕ} → kindAlternative statement (nextKind tokens s) ≡ 5
@@ -361,6 +361,6 @@ module _ (source tokens : List ℕ) (good : Tokens tokens) (e : Names) where
       let said = spoken-by source tokens good e (rule loopOrComplement (says complementRow) (unless aBrace ∷ []))
       (tilde-begun begins within level to₀ not d₁)
       (λ j k. loopOrComplement-none v e j (class-low source tokens good e j) (ap (λ (n : ℕ). eqb n leftBrace) k ∙ unbraced)) refl in
-      held productions17 v tokens e (names-fixed source tokens good e) said (λ (j k : ℕ) (is : s₁ ≡ Read j k).
+      held productions v tokens e (names-fixed source tokens good e) said (λ (j k : ℕ) (is : s₁ ≡ Read j k).
       mark-met source tokens good e leftBrace false j refl
       (ap (λ (n : ℕ). eqb n leftBrace) (reached source tokens good e s₁ j k is) ∙ unbraced))

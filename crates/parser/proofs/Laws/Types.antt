@@ -17,7 +17,7 @@ use Rattle.grammar.specs.Reading.{none, one, choice}
 use Rattle.grammar.specs.RowKinds.{baseTypeRow, functionTypeRow, instanceRow, namedTypeRow}
 use Rattle.grammar.specs.Nonterminals.{type, types, parenthesized, moreWords}
 use Rattle.grammar.specs.Classes.{name, word}
-use Rattle.grammar.specs.Nurl.{rule, productions17}
+use Rattle.grammar.specs.Nurl.{rule, productions}
 use Rattle.grammar.specs.Nurl.{one as only}
 use Rattle.grammar.specs.Languages.{language17}
 use Rattle.grammar.specs.Sources.{viewOf}
@@ -43,8 +43,8 @@ use Rattle.parser.proofs.Laws.Openings.{Begins, type-base-begins, type-
 use Rattle.parser.proofs.Laws.Openings.{type-result-begins, type-parenthesized-begins, type-named-begins}
 
 -- every alternative of a type makes a row
-type-rows : below (λ (k : ℕ). implies (ltb 0 (kindNumber type k)) (rowed (nth type (kindNumber type k) productions17))) classes ≡ true
-unfolding below implies and rowed levels nth productions17 kindNumber
+type-rows : below (λ (k : ℕ). implies (ltb 0 (kindNumber type k)) (rowed (nth type (kindNumber type k) productions))) classes ≡ true
+unfolding below implies and rowed levels nth productions kindNumber
 type-rows = refl
 
 -- there are seven
@@ -60,22 +60,22 @@ module _ (source tokens : List ℕ) (good : Tokens tokens) (e : Names) where
   v = viewOf language17 source (rowsOf tokens)
 
   abbrev Under : ℕ → ℕ → ℕ → Makes → ℕ → List Symbol → Step → List ℕ → Step → List ℕ → Type 0
-  Under x n below m least ss = After productions17 v (tokenRoom tokens) e n below m least 0 (part x ∷ []) ss
+  Under x n below m least ss = After productions v (tokenRoom tokens) e n below m least 0 (part x ∷ []) ss
 
   abbrev Part : ℕ → ℕ → ℕ → Step → List ℕ → Step → List ℕ → Type 0
-  Part n least x = Reads productions17 v (tokenRoom tokens) e n least 0 (part x ∷ [])
+  Part n least x = Reads productions v (tokenRoom tokens) e n least 0 (part x ∷ [])
 
-  type-choice : (j : ℕ) → choice productions17 v e type j ≡ nth type (kindAlternative type (kindOf (v .class e j))) productions17
+  type-choice : (j : ℕ) → choice productions v e type j ≡ nth type (kindAlternative type (kindOf (v .class e j))) productions
   type-choice j = type-at v e j (class-low source tokens good e j)
 
   -- there is none where no type begins
-  pub type-none : (j : ℕ) → kindAlternative type (kindOf (v .class e j)) ≡ 0 → choice productions17 v e type j ≡ none
+  pub type-none : (j : ℕ) → kindAlternative type (kindOf (v .class e j)) ≡ 0 → choice productions v e type j ≡ none
   unfolding nth
-  type-none j is = type-choice j ∙ ap (λ (n : ℕ). nth type n productions17) is
+  type-none j is = type-choice j ∙ ap (λ (n : ℕ). nth type n productions) is
 
   -- an alternative that makes a row is begun with its token
   type-begun : {n below : ℕ} (number : ℕ) {m : Makes} {cs : List ℕ} {ss : List Symbol} {s s₀ : Step} {t : List ℕ}
-      → nth type number productions17 ≡ one (rule type m (token cs ∷ ss)) → Begins type number cs
+      → nth type number productions ≡ one (rule type m (token cs ∷ ss)) → Begins type number cs
       → kindAlternative type (nextKind tokens s) ≡ number → Within tokens 1 s → n ≡ suc below → levels m ≡ 1
       → s₀ ≡ opened s → Under type n below m 1 ss s t s₀ t
   type-begun number is opens = begun-at source tokens good e type-choice is opens
@@ -92,13 +92,13 @@ module _ (source tokens : List ℕ) (good : Tokens tokens) (e : Names) where
 
   -- a type of one token
   type-leaf : {n below kind : ℕ} (number : ℕ) {cs : List ℕ} {s r : Step} {t after : List ℕ}
-      → nth type number productions17 ≡ one (rule type (row kind) (token cs ∷ [])) → Begins type number cs
+      → nth type number productions ≡ one (rule type (row kind) (token cs ∷ [])) → Begins type number cs
       → kindAlternative type (nextKind tokens s) ≡ number → Within tokens 1 s → n ≡ suc below
       → r ≡ opened s → after ≡ closed kind s (opened s) t
       → Part n 1 type s t r after
   unfolding levels
   type-leaf number is opens begins within level answer table =
-      closed-by productions17 v tokens e (names-fixed source tokens good e) (type-begun number is opens begins within level refl refl)
+      closed-by productions v tokens e (names-fixed source tokens good e) (type-begun number is opens begins within level refl refl)
       (omega arith) answer table
 
   pub base-type : {n below : ℕ} {s r : Step} {t after : List ℕ} → kindAlternative type (nextKind tokens s) ≡ 1 → Within tokens 1 s
@@ -125,11 +125,11 @@ module _ (source tokens : List ℕ) (good : Tokens tokens) (e : Names) where
       (rule parenthesized (says functionTypeRow) (only at ∷ part type ∷ part types ∷ only rightParen ∷ [])) a₀
       (λ j k. parenthesized-functionType v e j (class-low source tokens good e j) (k ∙ eqb-true (nextKind tokens s₀) at is)) refl in
       let a₁ = took-mark source tokens good e at said refl to₁ in
-      let a₃ = went productions17 v tokens e fixed (went productions17 v tokens e fixed a₁ d₂) d₃ in
+      let a₃ = went productions v tokens e fixed (went productions v tokens e fixed a₁ d₂) d₃ in
       took-mark source tokens good e rightParen a₃ refl to₄
 
   instance-takes : (s : Step) → eqb (nextKind tokens s) at ≡ false → (j : ℕ) → kindOf (v .class e j) ≡ nextKind tokens s
-      → Takes productions17 v e parenthesized (rule parenthesized (says instanceRow) (token name ∷ token word ∷ part moreWords ∷ only
+      → Takes productions v e parenthesized (rule parenthesized (says instanceRow) (token name ∷ token word ∷ part moreWords ∷ only
       rightParen ∷ [])) j
   instance-takes s not j k = by (eqb (kindOf (v .class e j)) ident) refl
     where
@@ -137,7 +137,7 @@ module _ (source tokens : List ℕ) (good : Tokens tokens) (e : Names) where
       low = class-low source tokens good e j
 
       by : (b : Bool) → eqb (kindOf (v .class e j)) ident ≡ b
-          → Takes productions17 v e parenthesized (rule parenthesized (says instanceRow) (token name ∷ token word ∷ part moreWords ∷ only
+          → Takes productions v e parenthesized (rule parenthesized (says instanceRow) (token name ∷ token word ∷ part moreWords ∷ only
           rightParen ∷ [])) j
       by true h = takes (parenthesized-instance v e j low (eqb-true _ _ h))
       by false h =
@@ -153,27 +153,27 @@ module _ (source tokens : List ℕ) (good : Tokens tokens) (e : Names) where
   instance {s₀ = s₀} begins within level to₀ not to₁ to₂ d₃ to₄ =
       let fixed = names-fixed source tokens good e in
       let a₀ = type-begun 6 type-parenthesized type-parenthesized-begins begins within level refl to₀ in
-      let said = spoken productions17 v tokens e fixed a₀
+      let said = spoken productions v tokens e fixed a₀
       (λ (j k : ℕ) (is : s₀ ≡ Read j k). instance-takes s₀ not j (reached source tokens good e s₀ j k is)) refl in
       let a₂ = took-word source tokens good e true (took-name source tokens good e said to₁) to₂ in
-      took-mark source tokens good e rightParen (went productions17 v tokens e fixed a₂ d₃) refl to₄
+      took-mark source tokens good e rightParen (went productions v tokens e fixed a₂ d₃) refl to₄
 
   -- as many types as there are
   pub types-go : {n : ℕ} {s s' s'' : Step} {t t' t'' : List ℕ}
-      → After productions17 v (tokenRoom tokens) e n n noRow 0 0 (part types ∷ []) (part types ∷ []) s t s' t'
+      → After productions v (tokenRoom tokens) e n n noRow 0 0 (part types ∷ []) (part types ∷ []) s t s' t'
       → begins type tokens s' ≡ true
       → Part n 1 type s' t' s'' t''
-      → After productions17 v (tokenRoom tokens) e n n noRow 0 0 (part types ∷ []) (part types ∷ []) s t s'' t''
+      → After productions v (tokenRoom tokens) e n n noRow 0 0 (part types ∷ []) (part types ∷ []) s t s'' t''
   types-go {s' = s'} a is =
-      list-more productions17 v tokens e (names-fixed source tokens good e) a (λ (j k : ℕ) (read : s' ≡ Read j k).
+      list-more productions v tokens e (names-fixed source tokens good e) a (λ (j k : ℕ) (read : s' ≡ Read j k).
       types-more v e j (class-low source tokens good e j) (begins-there source tokens good e type s' is j k read))
 
   pub types-end : {n : ℕ} {s s' : Step} {t t' : List ℕ}
-      → After productions17 v (tokenRoom tokens) e n n noRow 0 0 (part types ∷ []) (part types ∷ []) s t s' t'
+      → After productions v (tokenRoom tokens) e n n noRow 0 0 (part types ∷ []) (part types ∷ []) s t s' t'
       → begins type tokens s' ≡ false → Part n 0 types s t s' t'
   types-end {s' = s'} a is =
       let fixed = names-fixed source tokens good e in
-      done productions17 v tokens e fixed (list-done productions17 v tokens e fixed a (λ (j k : ℕ) (read : s' ≡ Read j k).
+      done productions v tokens e fixed (list-done productions v tokens e fixed a (λ (j k : ℕ) (read : s' ≡ Read j k).
       types-done v e j (class-low source tokens good e j) (none-there source tokens good e type s' is j k read)))
 
   -- a token that begins no type is refused
@@ -186,6 +186,6 @@ module _ (source tokens : List ℕ) (good : Tokens tokens) (e : Names) where
   pub type-deep : {n : ℕ} (s : Step) {t : List ℕ} → (kindAlternative type (nextKind tokens s) ≡ 0 → ⊥) → n ≡ 0
       → Part n 1 type s t (refusedAt 7 s) t
   type-deep s some spent =
-      row-deep source tokens good e s (nth type (kindAlternative type (nextKind tokens s)) productions17) spent
+      row-deep source tokens good e s (nth type (kindAlternative type (nextKind tokens s)) productions) spent
       (some-rowed type 0 type-rows (nextKind tokens s) (pos-of-ne-zero some))
       (alternative-is source tokens good e type type-choice s refl)

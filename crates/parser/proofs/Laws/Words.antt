@@ -9,7 +9,7 @@ use Rattle.lexer.specs.Table.{tokenRoom, rowsOf}
 use Rattle.grammar.specs.Grammars.{Symbol, token, part, Makes, noRow, Names, View}
 use Rattle.grammar.specs.Nonterminals.{moreNames, moreWords}
 use Rattle.grammar.specs.Classes.{word, declaredWord}
-use Rattle.grammar.specs.Nurl.{rule, productions17}
+use Rattle.grammar.specs.Nurl.{rule, productions}
 use Rattle.grammar.specs.Languages.{language17}
 use Rattle.grammar.specs.Sources.{viewOf}
 use Rattle.grammar.specs.Alternatives.{kindOf}
@@ -29,27 +29,27 @@ module _ (source tokens : List ℕ) (good : Tokens tokens) (e : Names) where
   v = viewOf language17 source (rowsOf tokens)
 
   pub words-more : {n below least more : ℕ} (keywords : Bool) {m : Makes} {ts ss : List Symbol} {s s' s'' : Step} {t t' : List ℕ}
-      → After productions17 v (tokenRoom tokens) e n below m least more ts (part (moreOf keywords) ∷ ss) s t s' t'
+      → After productions v (tokenRoom tokens) e n below m least more ts (part (moreOf keywords) ∷ ss) s t s' t'
       → among (wordKinds keywords) (nextKind tokens s') ≡ true → s'' ≡ takenWord tokens keywords s'
-      → After productions17 v (tokenRoom tokens) e n below m least more ts (part (moreOf keywords) ∷ ss) s t s'' t'
+      → After productions v (tokenRoom tokens) e n below m least more ts (part (moreOf keywords) ∷ ss) s t s'' t'
   unfolding wordKinds
   words-more true {s' = s'} a is to =
       let go = looked-by source tokens good e (rule moreWords noRow (token word ∷ part moreWords ∷ [])) a
       (λ (j : ℕ) (k : kindOf (v .class e j) ≡ nextKind tokens s').
       moreWords-more v e j (class-low source tokens good e j) (ap (among (wordKinds true)) k ∙ is)) refl in
-      wider productions17 v tokens e (names-fixed source tokens good e) (took-word source tokens good e true go to)
+      wider productions v tokens e (names-fixed source tokens good e) (took-word source tokens good e true go to)
       (omega arith) (omega arith)
   words-more false {s' = s'} a is to =
       let go = looked-by source tokens good e (rule moreNames noRow (token declaredWord ∷ part moreNames ∷ [])) a
       (λ (j : ℕ) (k : kindOf (v .class e j) ≡ nextKind tokens s').
       moreNames-more v e j (class-low source tokens good e j) (ap (among (wordKinds false)) k ∙ is)) refl in
-      wider productions17 v tokens e (names-fixed source tokens good e) (took-word source tokens good e false go to)
+      wider productions v tokens e (names-fixed source tokens good e) (took-word source tokens good e false go to)
       (omega arith) (omega arith)
 
   pub words-done : {n below least more : ℕ} (keywords : Bool) {m : Makes} {ts ss : List Symbol} {s s' : Step} {t t' : List ℕ}
-      → After productions17 v (tokenRoom tokens) e n below m least more ts (part (moreOf keywords) ∷ ss) s t s' t'
+      → After productions v (tokenRoom tokens) e n below m least more ts (part (moreOf keywords) ∷ ss) s t s' t'
       → among (wordKinds keywords) (nextKind tokens s') ≡ false
-      → After productions17 v (tokenRoom tokens) e n below m least more ts ss s t s' t'
+      → After productions v (tokenRoom tokens) e n below m least more ts ss s t s' t'
   unfolding wordKinds
   words-done true {s' = s'} a is =
       looked-by source tokens good e (rule moreWords noRow []) a

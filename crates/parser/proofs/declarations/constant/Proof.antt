@@ -2,7 +2,7 @@
 use mathlib.Core.Path.{_∙_}
 use mathlib.Core.List.{[]}
 use Rattle.grammar.specs.Nonterminals.{declaration}
-use Rattle.grammar.specs.Nurl.{productions17}
+use Rattle.grammar.specs.Nurl.{productions}
 use Rattle.parser.proofs.Laws.After.{within-small, within-wider, reads-within}
 use Rattle.parser.proofs.Laws.Views.{names-fixed}
 use Rattle.parser.proofs.Laws.Readers.{level-below, opened-within, within-mark, closing, closed-by}
@@ -50,7 +50,7 @@ take-requires c κs =
     let tokens = args .tokens .now in
     let good = pre .0 in
     within-small tokens (good .few) (omega arith)
-    (reads-within productions17 _ tokens [] (names-fixed [] tokens good []) (read-type .ensures [] []))
+    (reads-within productions _ tokens [] (names-fixed [] tokens good []) (read-type .ensures [] []))
 
 sub-literal : tie.Need-sub-literal
 sub-literal c =
@@ -67,7 +67,7 @@ literal-requires c κs =
     let pre = start .pre in
     let tokens = args .tokens .now in
     let good = pre .0 in
-    let typed = reads-within productions17 _ tokens [] (names-fixed [] tokens good []) (read-type .ensures [] []) in
+    let typed = reads-within productions _ tokens [] (names-fixed [] tokens good []) (read-type .ensures [] []) in
     (good, within-wider tokens (within-mark tokens 0 (take .ensures) typed) (omega arith))
 
 close-row-requires : tie.Need-close-row-requires
@@ -82,7 +82,7 @@ close-row-requires c κs =
     let pre = at-take-if .before .before .before .before .pre in
     let tokens = args .tokens .now in
     let good = pre .0 in
-    closing productions17 _ tokens [] (names-fixed [] tokens good []) good (pre .1 .0)
+    closing productions _ tokens [] (names-fixed [] tokens good []) good (pre .1 .0)
     (constant [] tokens good [] (pre .1 .1 .1 .0) (pre .1 .0) (level-below (pre .1 .1 .0)) (open-row .ensures)
     (rw (open-row .ensures) (pre .1 .1 .1 .1 .0)) (rw (open-row .ensures) (pre .1 .1 .1 .1 .1)) (take-if .ensures)
     (read-type .ensures [] []) (take .ensures) (literal .ensures [] []))
@@ -109,7 +109,7 @@ returns c =
     λ source e.
     let tokens = args .tokens .now in
     let good = pre .0 in
-    closed-by productions17 _ tokens e (names-fixed source tokens good e)
+    closed-by productions _ tokens e (names-fixed source tokens good e)
     (constant source tokens good e (pre .1 .1 .1 .0) (pre .1 .0) (level-below (pre .1 .1 .0)) (open-row .ensures)
     (rw (open-row .ensures) (pre .1 .1 .1 .1 .0)) (rw (open-row .ensures) (pre .1 .1 .1 .1 .1)) (take-if .ensures)
     (read-type .ensures source e) (take .ensures) (literal .ensures source e)) (omega arith)

@@ -1,7 +1,7 @@
 -- `parser::declarations::enumeration` meets its contract. Assumes nothing.
 use mathlib.Core.Path.{_∙_, ap}
 use Rattle.grammar.specs.Nonterminals.{declaration}
-use Rattle.grammar.specs.Nurl.{productions17}
+use Rattle.grammar.specs.Nurl.{productions}
 use Rattle.parser.specs.Steps.{nextKind}
 use Rattle.parser.proofs.Laws.After.{within-small, reads-within}
 use Rattle.parser.proofs.Laws.Views.{names-fixed}
@@ -73,7 +73,7 @@ take-requires-4 c κs =
     let tokens = args .tokens .now in
     let good = pre .0 in
     within-small tokens (good .few) (omega arith)
-    (reads-within productions17 _ tokens _ (names-fixed (args .source .now) tokens good _) (variants .ensures))
+    (reads-within productions _ tokens _ (names-fixed (args .source .now) tokens good _) (variants .ensures))
 
 close-row-requires : tie.Need-close-row-requires
 close-row-requires c κs =
@@ -90,7 +90,7 @@ close-row-requires c κs =
     let tokens = args .tokens .now in
     let good = pre .0 in
     let barred = ap (nextKind tokens) (open-row .ensures) ∙ pre .1 .1 .1 .1 in
-    closing productions17 _ tokens _ (names-fixed source tokens good _) good (pre .1 .0)
+    closing productions _ tokens _ (names-fixed source tokens good _) good (pre .1 .0)
     (enum source tokens good _ (pre .1 .1 .1 .0) (pre .1 .0) (level-below (pre .1 .1 .0)) (open-row .ensures) barred
     (take .ensures) (take2 .ensures) (take3 .ensures) (variants .ensures) (take4 .ensures))
 
@@ -116,7 +116,7 @@ returns c =
     let tokens = args .tokens .now in
     let good = pre .0 in
     let barred = ap (nextKind tokens) (open-row .ensures) ∙ pre .1 .1 .1 .1 in
-    closed-by productions17 _ tokens _ (names-fixed source tokens good _)
+    closed-by productions _ tokens _ (names-fixed source tokens good _)
     (enum source tokens good _ (pre .1 .1 .1 .0) (pre .1 .0) (level-below (pre .1 .1 .0)) (open-row .ensures) barred
     (take .ensures) (take2 .ensures) (take3 .ensures) (variants .ensures) (take4 .ensures)) (omega arith)
     (close-row .ensures .0) (close-row .ensures .1)

@@ -2,7 +2,7 @@
 use mathlib.Core.Path.{_∙_}
 use mathlib.Core.List.{[]}
 use Rattle.grammar.specs.Nonterminals.{declaration}
-use Rattle.grammar.specs.Nurl.{productions17}
+use Rattle.grammar.specs.Nurl.{productions}
 use Rattle.parser.proofs.Laws.After.{within-small, within-wider, reads-within}
 use Rattle.parser.proofs.Laws.Views.{names-fixed}
 use Rattle.parser.proofs.Laws.Readers.{level-below, opened-within, within-mark, closing, closed-by}
@@ -73,7 +73,7 @@ take-requires-4 c κs =
     let tokens = args .tokens .now in
     let good = pre .0 in
     within-small tokens (good .few) (omega arith)
-    (reads-within productions17 _ tokens [] (names-fixed [] tokens good []) (fields .ensures [] []))
+    (reads-within productions _ tokens [] (names-fixed [] tokens good []) (fields .ensures [] []))
 
 sub-read-type : tie.Need-sub-read-type
 sub-read-type c =
@@ -90,7 +90,7 @@ read-type-requires c κs =
     let pre = start .pre in
     let tokens = args .tokens .now in
     let good = pre .0 in
-    let listed = reads-within productions17 _ tokens [] (names-fixed [] tokens good []) (fields .ensures [] []) in
+    let listed = reads-within productions _ tokens [] (names-fixed [] tokens good []) (fields .ensures [] []) in
     (good, within-wider tokens (within-mark tokens 41 (take4 .ensures) listed) (omega arith))
 
 close-row-requires : tie.Need-close-row-requires
@@ -107,7 +107,7 @@ close-row-requires c κs =
     let pre = at-take3 .before .before .before .before .before .before .pre in
     let tokens = args .tokens .now in
     let good = pre .0 in
-    closing productions17 _ tokens [] (names-fixed [] tokens good []) good (pre .1 .0)
+    closing productions _ tokens [] (names-fixed [] tokens good []) good (pre .1 .0)
     (foreign [] tokens good [] (pre .1 .1 .1) (pre .1 .0) (level-below (pre .1 .1 .0)) (open-row .ensures) (take .ensures)
     (take2 .ensures) (take3 .ensures) (fields .ensures [] []) (take4 .ensures) (read-type .ensures [] []))
 
@@ -135,7 +135,7 @@ returns c =
     λ source e.
     let tokens = args .tokens .now in
     let good = pre .0 in
-    closed-by productions17 _ tokens e (names-fixed source tokens good e)
+    closed-by productions _ tokens e (names-fixed source tokens good e)
     (foreign source tokens good e (pre .1 .1 .1) (pre .1 .0) (level-below (pre .1 .1 .0)) (open-row .ensures) (take .ensures)
     (take2 .ensures) (take3 .ensures) (fields .ensures source e) (take4 .ensures) (read-type .ensures source e)) (omega arith)
     (close-row .ensures .0) (close-row .ensures .1)

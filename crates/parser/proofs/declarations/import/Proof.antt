@@ -1,7 +1,7 @@
 -- `parser::declarations::import` meets its contract. Assumes nothing.
 use mathlib.Core.List.{[]}
 use Rattle.grammar.specs.Nonterminals.{declaration}
-use Rattle.grammar.specs.Nurl.{productions17}
+use Rattle.grammar.specs.Nurl.{productions}
 use Rattle.parser.proofs.Laws.After.{within-small}
 use Rattle.parser.proofs.Laws.Views.{names-fixed}
 use Rattle.parser.proofs.Laws.Readers.{level-below, opened-within, within-mark, closing, closed-by}
@@ -43,7 +43,7 @@ close-row-requires c κs =
     let take-if = c .before .take-if in
     let tokens = args .tokens .now in
     let good = pre .0 in
-    closing productions17 _ tokens [] (names-fixed [] tokens good []) good (pre .1 .0)
+    closing productions _ tokens [] (names-fixed [] tokens good []) good (pre .1 .0)
     (import [] tokens good [] {t = []} (pre .1 .1 .1) (pre .1 .0) (level-below (pre .1 .1 .0)) (open-row .ensures) (take .ensures)
     (take-if .ensures))
 
@@ -63,7 +63,7 @@ returns c =
     λ source e.
     let tokens = args .tokens .now in
     let good = pre .0 in
-    closed-by productions17 _ tokens e (names-fixed source tokens good e)
+    closed-by productions _ tokens e (names-fixed source tokens good e)
     (import source tokens good e (pre .1 .1 .1) (pre .1 .0) (level-below (pre .1 .1 .0)) (open-row .ensures) (take .ensures)
     (take-if .ensures)) (omega arith) (close-row .ensures .0) (close-row .ensures .1)
 

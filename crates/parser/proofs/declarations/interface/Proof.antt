@@ -2,7 +2,7 @@
 use mathlib.Core.Path.{_∙_, sym}
 use mathlib.Core.List.{[]}
 use Rattle.grammar.specs.Nonterminals.{declaration}
-use Rattle.grammar.specs.Nurl.{productions17}
+use Rattle.grammar.specs.Nurl.{productions}
 use Rattle.parser.proofs.Laws.After.{within-small, within-wider, reads-within}
 use Rattle.parser.proofs.Laws.Views.{names-fixed}
 use Rattle.parser.proofs.Laws.Readers.{level-below, opened-within, within-mark, closing, closed-by}
@@ -55,7 +55,7 @@ take-requires-2 c κs =
     let tokens = args .tokens .now in
     let good = pre .0 in
     within-small tokens (good .few) (omega arith)
-    (reads-within productions17 _ tokens [] (names-fixed [] tokens good []) (optional-list .ensures [] []))
+    (reads-within productions _ tokens [] (names-fixed [] tokens good []) (optional-list .ensures [] []))
 
 sub-methods : tie.Need-sub-methods
 sub-methods c =
@@ -72,7 +72,7 @@ methods-requires c κs =
     let pre = start .pre in
     let tokens = args .tokens .now in
     let good = pre .0 in
-    let listed = reads-within productions17 _ tokens [] (names-fixed [] tokens good []) (optional-list .ensures [] []) in
+    let listed = reads-within productions _ tokens [] (names-fixed [] tokens good []) (optional-list .ensures [] []) in
     (good, within-mark tokens 16 (take2 .ensures) listed)
 
 take-requires-3 : tie.Need-take-requires-3
@@ -86,7 +86,7 @@ take-requires-3 c κs =
     let tokens = args .tokens .now in
     let good = pre .0 in
     within-small tokens (good .few) (omega arith)
-    (reads-within productions17 _ tokens _ (names-fixed source tokens good _) (methods .ensures))
+    (reads-within productions _ tokens _ (names-fixed source tokens good _) (methods .ensures))
 
 close-row-requires : tie.Need-close-row-requires
 close-row-requires c κs =
@@ -104,7 +104,7 @@ close-row-requires c κs =
     let source = args .source .now in
     let tokens = args .tokens .now in
     let good = pre .0 in
-    closing productions17 _ tokens _ (names-fixed source tokens good _) good (pre .1 .0)
+    closing productions _ tokens _ (names-fixed source tokens good _) good (pre .1 .0)
     (trait source tokens good _ (pre .1 .1 .1) (pre .1 .0) (level-below (pre .1 .1 .0)) (open-row .ensures) (take .ensures)
     (optional-list .ensures source _) (sym (next-is .ensures) ∙ if1 .taken) (take2 .ensures) (methods .ensures) (take3 .ensures))
 
@@ -136,7 +136,7 @@ returns c =
     let tokens = args .tokens .now in
     let good = pre .0 in
     interface-declares source tokens good _ (pre .1 .1 .1) (pre .1 .0)
-    (closed-by productions17 _ tokens _ (names-fixed source tokens good _)
+    (closed-by productions _ tokens _ (names-fixed source tokens good _)
     (trait source tokens good _ (pre .1 .1 .1) (pre .1 .0) (level-below (pre .1 .1 .0)) (open-row .ensures) (take .ensures)
     (optional-list .ensures source _) (sym (next-is .ensures) ∙ if1 .taken) (take2 .ensures) (methods .ensures) (take3 .ensures))
     (omega arith)
@@ -156,7 +156,7 @@ read-type-requires c κs =
     let pre = start .pre in
     let tokens = args .tokens .now in
     let good = pre .0 in
-    let listed = reads-within productions17 _ tokens [] (names-fixed [] tokens good []) (optional-list .ensures [] []) in
+    let listed = reads-within productions _ tokens [] (names-fixed [] tokens good []) (optional-list .ensures [] []) in
     (good, within-wider tokens listed (omega arith))
 
 take-requires-4 : tie.Need-take-requires-4
@@ -169,7 +169,7 @@ take-requires-4 c κs =
     let tokens = args .tokens .now in
     let good = pre .0 in
     within-small tokens (good .few) (omega arith)
-    (reads-within productions17 _ tokens [] (names-fixed [] tokens good []) (read-type .ensures [] []))
+    (reads-within productions _ tokens [] (names-fixed [] tokens good []) (read-type .ensures [] []))
 
 sub-functions : tie.Need-sub-functions
 sub-functions c =
@@ -188,7 +188,7 @@ functions-requires c κs =
     let pre = start .pre in
     let tokens = args .tokens .now in
     let good = pre .0 in
-    let typed = reads-within productions17 _ tokens [] (names-fixed [] tokens good []) (read-type .ensures [] []) in
+    let typed = reads-within productions _ tokens [] (names-fixed [] tokens good []) (read-type .ensures [] []) in
     (good, within-mark tokens 16 (take4 .ensures) typed)
 
 take-requires-5 : tie.Need-take-requires-5
@@ -202,7 +202,7 @@ take-requires-5 c κs =
     let tokens = args .tokens .now in
     let good = pre .0 in
     within-small tokens (good .few) (omega arith)
-    (reads-within productions17 _ tokens _ (names-fixed source tokens good _) (functions .ensures))
+    (reads-within productions _ tokens _ (names-fixed source tokens good _) (functions .ensures))
 
 close-row-requires-2 : tie.Need-close-row-requires-2
 close-row-requires-2 c κs =
@@ -222,7 +222,7 @@ close-row-requires-2 c κs =
     let source = args .source .now in
     let tokens = args .tokens .now in
     let good = pre .0 in
-    closing productions17 _ tokens _ (names-fixed source tokens good _) good (pre .1 .0)
+    closing productions _ tokens _ (names-fixed source tokens good _) good (pre .1 .0)
     (impl source tokens good _ (pre .1 .1 .1) (pre .1 .0) (level-below (pre .1 .1 .0)) (open-row .ensures) (take .ensures)
     (optional-list .ensures source _) (sym (next-is .ensures) ∙ if1 .left) (read-type .ensures source _) (take4 .ensures)
     (functions .ensures) (take5 .ensures))
@@ -257,7 +257,7 @@ returns-2 c =
     let tokens = args .tokens .now in
     let good = pre .0 in
     interface-declares source tokens good _ (pre .1 .1 .1) (pre .1 .0)
-    (closed-by productions17 _ tokens _ (names-fixed source tokens good _)
+    (closed-by productions _ tokens _ (names-fixed source tokens good _)
     (impl source tokens good _ (pre .1 .1 .1) (pre .1 .0) (level-below (pre .1 .1 .0)) (open-row .ensures) (take .ensures)
     (optional-list .ensures source _) (sym (next-is .ensures) ∙ if1 .left) (read-type .ensures source _) (take4 .ensures)
     (functions .ensures) (take5 .ensures)) (omega arith)

@@ -5,7 +5,7 @@ use native.Mathlib.Nat.{pos-of-ne-zero}
 use lib.Dec.{eqb}
 use borrow.Author.Tests.{eq-eqb}
 use Rattle.lexer.specs.Kinds.{at}
-use Rattle.grammar.specs.Nurl.{productions17}
+use Rattle.grammar.specs.Nurl.{productions}
 use Rattle.parser.proofs.Laws.After.{within-small, within-wider, reads-within}
 use Rattle.parser.proofs.Laws.Views.{names-fixed}
 use Rattle.parser.proofs.Laws.Readers.{level-below, within-mark, closing, closed-by}
@@ -68,7 +68,7 @@ parameters-requires c κs =
     let pre = start .pre in
     let tokens = args .tokens .now in
     let good = pre .0 in
-    (good, reads-within productions17 _ tokens [] (names-fixed [] tokens good []) (optional-list .ensures [] []))
+    (good, reads-within productions _ tokens [] (names-fixed [] tokens good []) (optional-list .ensures [] []))
 
 take-requires-2 : tie.Need-take-requires-2
 take-requires-2 c κs =
@@ -80,7 +80,7 @@ take-requires-2 c κs =
     let tokens = args .tokens .now in
     let good = pre .0 in
     within-small tokens (good .few) (omega arith)
-    (reads-within productions17 _ tokens [] (names-fixed [] tokens good []) (parameters .ensures [] []))
+    (reads-within productions _ tokens [] (names-fixed [] tokens good []) (parameters .ensures [] []))
 
 sub-read-type : tie.Need-sub-read-type
 sub-read-type c =
@@ -98,7 +98,7 @@ read-type-requires c κs =
     let pre = start .pre in
     let tokens = args .tokens .now in
     let good = pre .0 in
-    let given = reads-within productions17 _ tokens [] (names-fixed [] tokens good []) (parameters .ensures [] []) in
+    let given = reads-within productions _ tokens [] (names-fixed [] tokens good []) (parameters .ensures [] []) in
     (good, within-wider tokens (within-mark tokens 41 (take2 .ensures) given) (omega arith))
 
 next-is-requires : tie.Need-next-is-requires
@@ -120,7 +120,7 @@ block-requires c κs =
     let pre = start .pre in
     let tokens = args .tokens .now in
     let good = pre .0 in
-    let typed = reads-within productions17 _ tokens [] (names-fixed [] tokens good []) (read-type .ensures [] []) in
+    let typed = reads-within productions _ tokens [] (names-fixed [] tokens good []) (read-type .ensures [] []) in
     (good, within-wider tokens typed (omega arith))
 
 close-row-requires : tie.Need-close-row-requires
@@ -142,7 +142,7 @@ close-row-requires c κs =
     let source = args .source .now in
     let tokens = args .tokens .now in
     let good = pre .0 in
-    closing productions17 _ tokens _ (names-fixed source tokens good _) good (pre .1 .0)
+    closing productions _ tokens _ (names-fixed source tokens good _) good (pre .1 .0)
     (method-reads source tokens good _ (pre .1 .1) (pre .1 .0) (level-below (pos-of-ne-zero (if1 .left))) (open-row .ensures)
     (take .ensures) (optional-list .ensures source _) (parameters .ensures source _) (take2 .ensures)
     (read-type .ensures source _) (sym (next-is .ensures) ∙ if2 .taken) (block .ensures))
@@ -177,7 +177,7 @@ returns-2 c =
     let source = args .source .now in
     let tokens = args .tokens .now in
     let good = pre .0 in
-    closed-by productions17 _ tokens _ (names-fixed source tokens good _)
+    closed-by productions _ tokens _ (names-fixed source tokens good _)
     (method-reads source tokens good _ (pre .1 .1) (pre .1 .0) (level-below (pos-of-ne-zero (if1 .left))) (open-row .ensures)
     (take .ensures) (optional-list .ensures source _) (parameters .ensures source _) (take2 .ensures)
     (read-type .ensures source _) (sym (next-is .ensures) ∙ if2 .taken) (block .ensures))
@@ -200,7 +200,7 @@ close-row-requires-2 c κs =
     let pre = start .pre in
     let tokens = args .tokens .now in
     let good = pre .0 in
-    closing productions17 _ tokens [] (names-fixed [] tokens good []) good (pre .1 .0)
+    closing productions _ tokens [] (names-fixed [] tokens good []) good (pre .1 .0)
     (header-reads [] tokens good [] (pre .1 .1) (pre .1 .0) (level-below (pos-of-ne-zero (if1 .left))) (open-row .ensures)
     (take .ensures) (optional-list .ensures [] []) (parameters .ensures [] []) (take2 .ensures)
     (read-type .ensures [] []) (sym (next-is .ensures) ∙ if2 .left))
@@ -233,7 +233,7 @@ returns-3 c =
     let source = args .source .now in
     let tokens = args .tokens .now in
     let good = pre .0 in
-    closed-by productions17 _ tokens _ (names-fixed source tokens good _)
+    closed-by productions _ tokens _ (names-fixed source tokens good _)
     (header-reads source tokens good _ (pre .1 .1) (pre .1 .0) (level-below (pos-of-ne-zero (if1 .left))) (open-row .ensures)
     (take .ensures) (optional-list .ensures source _) (parameters .ensures source _) (take2 .ensures)
     (read-type .ensures source _) (sym (next-is .ensures) ∙ if2 .left)) (omega arith) (close-row2 .ensures .0) (close-row2 .ensures .1)

@@ -6,7 +6,7 @@ use borrow.Author.Tests.{eqb-true}
 use Rattle.lexer.specs.Table.{tokenRoom, rowsOf}
 use Rattle.grammar.specs.Grammars.{part, noRow}
 use Rattle.grammar.specs.Nonterminals.{methods}
-use Rattle.grammar.specs.Nurl.{productions17}
+use Rattle.grammar.specs.Nurl.{productions}
 use Rattle.grammar.specs.Languages.{language17}
 use Rattle.grammar.specs.Sources.{viewOf}
 use Rattle.parser.specs.Readings.{namesIn}
@@ -22,7 +22,7 @@ use Rattle.parser.proofs.declarations.methods.Tie as tie
 abbrev Inv-loop : tie.InvT-loop
 Inv-loop source names tokens rows₀ scope left step₀ rows step =
     (length rows ≡ length rows₀) ×
-    (After productions17 (viewOf language17 source (rowsOf tokens)) (tokenRoom tokens) (namesIn source names tokens scope) left left
+    (After productions (viewOf language17 source (rowsOf tokens)) (tokenRoom tokens) (namesIn source names tokens scope) left left
     noRow 0 0 (part methods ∷ []) (part methods ∷ []) step₀ rows₀ step rows)
 
 abbrev μ-loop : tie.MeasureT-loop
@@ -32,7 +32,7 @@ loop-holds : tie.Need-loop-holds Inv-loop μ-loop
 loop-holds c =
     let args = c .before .before .before .before .args in
     let pre = c .before .before .before .before .pre in
-    (refl, start productions17 _ (args .tokens .now) _ (names-fixed (args .source .now) (args .tokens .now) (pre .0) _) (pre .1))
+    (refl, start productions _ (args .tokens .now) _ (names-fixed (args .source .now) (args .tokens .now) (pre .0) _) (pre .1))
 
 next-is-requires : tie.Need-next-is-requires Inv-loop μ-loop
 next-is-requires c κs = search needs
@@ -45,7 +45,7 @@ method-requires c κs =
     let next-is = c .before .before .next-is in
     let if1 = c .before .if1 in
     let tokens = args .tokens .now in
-    let reached = after-within productions17 _ tokens _ (names-fixed (args .source .now) tokens (pre .0) _) (loop .inv .1) in
+    let reached = after-within productions _ tokens _ (names-fixed (args .source .now) tokens (pre .0) _) (loop .inv .1) in
     (pre .0, (within-wider tokens reached (omega arith), eqb-true _ _ (sym (next-is .ensures) ∙ if1 .taken)))
 
 loop-less : tie.Need-loop-less Inv-loop μ-loop

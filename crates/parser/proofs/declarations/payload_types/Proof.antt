@@ -5,7 +5,7 @@ use lib.ListN.{length}
 use Rattle.lexer.specs.Table.{tokenRoom, rowsOf}
 use Rattle.grammar.specs.Grammars.{part, noRow}
 use Rattle.grammar.specs.Nonterminals.{payloadTypes}
-use Rattle.grammar.specs.Nurl.{productions17}
+use Rattle.grammar.specs.Nurl.{productions}
 use Rattle.grammar.specs.Languages.{language17}
 use Rattle.grammar.specs.Sources.{viewOf}
 use Rattle.parser.specs.Readings.{namesIn}
@@ -21,7 +21,7 @@ use Rattle.parser.proofs.declarations.payload_types.Tie as tie
 abbrev Inv-loop : tie.InvT-loop
 Inv-loop source names tokens rows₀ scope left step₀ rows step =
     (length rows ≡ length rows₀) ×
-    (After productions17 (viewOf language17 source (rowsOf tokens)) (tokenRoom tokens) (namesIn source names tokens scope) left left
+    (After productions (viewOf language17 source (rowsOf tokens)) (tokenRoom tokens) (namesIn source names tokens scope) left left
     noRow 0 0 (part payloadTypes ∷ []) (part payloadTypes ∷ []) step₀ rows₀ step rows)
 
 abbrev μ-loop : tie.MeasureT-loop
@@ -31,7 +31,7 @@ loop-holds : tie.Need-loop-holds Inv-loop μ-loop
 loop-holds c =
     let args = c .before .before .before .before .args in
     let pre = c .before .before .before .before .pre in
-    (refl, start productions17 _ (args .tokens .now) _ (names-fixed (args .source .now) (args .tokens .now) (pre .0) _) (pre .1))
+    (refl, start productions _ (args .tokens .now) _ (names-fixed (args .source .now) (args .tokens .now) (pre .0) _) (pre .1))
 
 begins-payload-type-requires : tie.Need-begins-payload-type-requires Inv-loop μ-loop
 begins-payload-type-requires c κs = search needs
@@ -42,7 +42,7 @@ read-type-requires c κs =
     let pre = c .before .before .before .before .before .before .before .before .pre in
     let loop = c .before .before .before .loop in
     let tokens = args .tokens .now in
-    let reached = after-within productions17 _ tokens _ (names-fixed (args .source .now) tokens (pre .0) _) (loop .inv .1) in
+    let reached = after-within productions _ tokens _ (names-fixed (args .source .now) tokens (pre .0) _) (loop .inv .1) in
     (pre .0, within-wider tokens reached (omega arith))
 
 loop-less : tie.Need-loop-less Inv-loop μ-loop

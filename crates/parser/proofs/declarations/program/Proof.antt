@@ -8,7 +8,7 @@ use Rattle.lexer.specs.Table.{tokenRoom, rowsOf}
 use Rattle.grammar.specs.Grammars.{part, row}
 use Rattle.grammar.specs.RowKinds.{programRow}
 use Rattle.grammar.specs.Nonterminals.{program, declarations, declaration as aDeclaration}
-use Rattle.grammar.specs.Nurl.{productions17}
+use Rattle.grammar.specs.Nurl.{productions}
 use Rattle.grammar.specs.Languages.{language17}
 use Rattle.grammar.specs.Sources.{viewOf}
 use Rattle.parser.specs.Readings.{namesIn}
@@ -28,7 +28,7 @@ use Rattle.parser.proofs.declarations.program.Tie as tie
 abbrev Inv-loop : tie.InvT-loop
 Inv-loop source names tokens rows₀ scope left from step₀ rows step =
     (length rows ≡ length rows₀) ×
-    (After productions17 (viewOf language17 source (rowsOf tokens)) (tokenRoom tokens) (namesIn source names tokens scope) left (left - 1)
+    (After productions (viewOf language17 source (rowsOf tokens)) (tokenRoom tokens) (namesIn source names tokens scope) left (left - 1)
     (row programRow) 0 1 (part program ∷ []) (part declarations ∷ []) (Read 0 0) rows₀ step rows)
 
 abbrev μ-loop : tie.MeasureT-loop
@@ -76,7 +76,7 @@ declaration-requires c κs =
     let args = start .args in
     let pre = start .pre in
     let tokens = args .tokens .now in
-    (pre, after-within productions17 _ tokens _ (names-fixed (args .source .now) tokens pre _) (loop .inv .1))
+    (pre, after-within productions _ tokens _ (names-fixed (args .source .now) tokens pre _) (loop .inv .1))
 
 loop-less : tie.Need-loop-less Inv-loop μ-loop
 loop-less c =

@@ -2,7 +2,7 @@
 use mathlib.Core.Path.{_∙_}
 use mathlib.Core.List.{[]}
 use Rattle.grammar.specs.Nonterminals.{declaration}
-use Rattle.grammar.specs.Nurl.{productions17}
+use Rattle.grammar.specs.Nurl.{productions}
 use Rattle.parser.proofs.Laws.After.{within-small, reads-within}
 use Rattle.parser.proofs.Laws.Views.{names-fixed}
 use Rattle.parser.proofs.Laws.Readers.{level-below, opened-within, within-mark, closing, closed-by}
@@ -49,7 +49,7 @@ take-requires-2 c κs =
     let tokens = args .tokens .now in
     let good = pre .0 in
     within-small tokens (good .few) (omega arith)
-    (reads-within productions17 _ tokens [] (names-fixed [] tokens good []) (optional-list .ensures [] []))
+    (reads-within productions _ tokens [] (names-fixed [] tokens good []) (optional-list .ensures [] []))
 
 sub-fields : tie.Need-sub-fields
 sub-fields c =
@@ -66,7 +66,7 @@ fields-requires c κs =
     let pre = start .pre in
     let tokens = args .tokens .now in
     let good = pre .0 in
-    let listed = reads-within productions17 _ tokens [] (names-fixed [] tokens good []) (optional-list .ensures [] []) in
+    let listed = reads-within productions _ tokens [] (names-fixed [] tokens good []) (optional-list .ensures [] []) in
     (good, within-mark tokens 16 (take2 .ensures) listed)
 
 take-requires-3 : tie.Need-take-requires-3
@@ -78,7 +78,7 @@ take-requires-3 c κs =
     let tokens = args .tokens .now in
     let good = pre .0 in
     within-small tokens (good .few) (omega arith)
-    (reads-within productions17 _ tokens [] (names-fixed [] tokens good []) (fields .ensures [] []))
+    (reads-within productions _ tokens [] (names-fixed [] tokens good []) (fields .ensures [] []))
 
 close-row-requires : tie.Need-close-row-requires
 close-row-requires c κs =
@@ -93,7 +93,7 @@ close-row-requires c κs =
     let pre = at-take .before .before .before .before .pre in
     let tokens = args .tokens .now in
     let good = pre .0 in
-    closing productions17 _ tokens [] (names-fixed [] tokens good []) good (pre .1 .0)
+    closing productions _ tokens [] (names-fixed [] tokens good []) good (pre .1 .0)
     (struct [] tokens good [] (pre .1 .1 .1 .0) (pre .1 .0) (level-below (pre .1 .1 .0)) (open-row .ensures)
     (rw (open-row .ensures) (pre .1 .1 .1 .1)) (take .ensures) (optional-list .ensures [] []) (take2 .ensures)
     (fields .ensures [] []) (take3 .ensures))
@@ -121,7 +121,7 @@ returns c =
     λ source e.
     let tokens = args .tokens .now in
     let good = pre .0 in
-    closed-by productions17 _ tokens e (names-fixed source tokens good e)
+    closed-by productions _ tokens e (names-fixed source tokens good e)
     (struct source tokens good e (pre .1 .1 .1 .0) (pre .1 .0) (level-below (pre .1 .1 .0)) (open-row .ensures)
     (rw (open-row .ensures) (pre .1 .1 .1 .1)) (take .ensures) (optional-list .ensures source e) (take2 .ensures)
     (fields .ensures source e) (take3 .ensures)) (omega arith) (close-row .ensures .0) (close-row .ensures .1)

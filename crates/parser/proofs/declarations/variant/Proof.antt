@@ -1,7 +1,7 @@
 -- `parser::declarations::variant` meets its contract. Assumes nothing.
 use mathlib.Core.Path.{_∙_}
 use native.Mathlib.Nat.{pos-of-ne-zero}
-use Rattle.grammar.specs.Nurl.{productions17}
+use Rattle.grammar.specs.Nurl.{productions}
 use Rattle.parser.proofs.Laws.After.{after-within, within-small, within-wider}
 use Rattle.parser.proofs.Laws.Views.{names-fixed}
 use Rattle.parser.proofs.Laws.Readers.{level-below, closing, closed-by}
@@ -52,7 +52,7 @@ payload-types-requires c κs =
     let good = pre .0 in
     let named = variant-named source tokens good _ {t = args .rows .now} (pre .1 .0) (level-below (pos-of-ne-zero (if1 .left)))
     (pre .1 .1) (reserve-row .ensures) (take .ensures) in
-    (good, after-within productions17 _ tokens _ (names-fixed source tokens good _) named)
+    (good, after-within productions _ tokens _ (names-fixed source tokens good _) named)
 
 close-row-requires : tie.Need-close-row-requires
 close-row-requires c κs =
@@ -66,7 +66,7 @@ close-row-requires c κs =
     let source = args .source .now in
     let tokens = args .tokens .now in
     let good = pre .0 in
-    closing productions17 _ tokens _ (names-fixed source tokens good _) good (within-wider tokens (pre .1 .0) (omega arith))
+    closing productions _ tokens _ (names-fixed source tokens good _) good (within-wider tokens (pre .1 .0) (omega arith))
     (variant-reads source tokens good _ (pre .1 .0) (level-below (pos-of-ne-zero (if1 .left))) (pre .1 .1) (reserve-row .ensures)
     (take .ensures) (payload-types .ensures))
 
@@ -89,7 +89,7 @@ returns-2 c =
     let source = args .source .now in
     let tokens = args .tokens .now in
     let good = pre .0 in
-    closed-by productions17 _ tokens _ (names-fixed source tokens good _)
+    closed-by productions _ tokens _ (names-fixed source tokens good _)
     (variant-reads source tokens good _ (pre .1 .0) (level-below (pos-of-ne-zero (if1 .left))) (pre .1 .1) (reserve-row .ensures)
     (take .ensures) (payload-types .ensures)) (omega arith) (close-row .ensures .0) (close-row .ensures .1)
 

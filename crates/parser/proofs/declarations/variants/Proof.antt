@@ -5,7 +5,7 @@ use lib.ListN.{length}
 use Rattle.lexer.specs.Table.{tokenRoom, rowsOf}
 use Rattle.grammar.specs.Grammars.{part, noRow}
 use Rattle.grammar.specs.Nonterminals.{variants}
-use Rattle.grammar.specs.Nurl.{productions17}
+use Rattle.grammar.specs.Nurl.{productions}
 use Rattle.grammar.specs.Languages.{language17}
 use Rattle.grammar.specs.Sources.{viewOf}
 use Rattle.parser.specs.Readings.{namesIn}
@@ -20,7 +20,7 @@ use Rattle.parser.proofs.declarations.variants.Tie as tie
 abbrev Inv-loop : tie.InvT-loop
 Inv-loop source names tokens rows₀ scope left step₀ rows step =
     (length rows ≡ length rows₀) ×
-    (After productions17 (viewOf language17 source (rowsOf tokens)) (tokenRoom tokens) (namesIn source names tokens scope) left left
+    (After productions (viewOf language17 source (rowsOf tokens)) (tokenRoom tokens) (namesIn source names tokens scope) left left
     noRow 0 0 (part variants ∷ []) (part variants ∷ []) step₀ rows₀ step rows)
 
 abbrev μ-loop : tie.MeasureT-loop
@@ -30,7 +30,7 @@ loop-holds : tie.Need-loop-holds Inv-loop μ-loop
 loop-holds c =
     let args = c .before .before .before .before .args in
     let pre = c .before .before .before .before .pre in
-    (refl, start productions17 _ (args .tokens .now) _ (names-fixed (args .source .now) (args .tokens .now) (pre .0) _) (pre .1))
+    (refl, start productions _ (args .tokens .now) _ (names-fixed (args .source .now) (args .tokens .now) (pre .0) _) (pre .1))
 
 plain-name-requires : tie.Need-plain-name-requires Inv-loop μ-loop
 plain-name-requires c κs = search needs
@@ -43,7 +43,7 @@ variant-requires c κs =
     let plain-name = c .before .before .plain-name in
     let if1 = c .before .if1 in
     let tokens = args .tokens .now in
-    let reached = after-within productions17 _ tokens _ (names-fixed (args .source .now) tokens (pre .0) _) (loop .inv .1) in
+    let reached = after-within productions _ tokens _ (names-fixed (args .source .now) tokens (pre .0) _) (loop .inv .1) in
     (pre .0, (reached, sym (plain-name .ensures) ∙ if1 .taken))
 
 loop-less : tie.Need-loop-less Inv-loop μ-loop

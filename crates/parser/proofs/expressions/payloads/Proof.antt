@@ -8,7 +8,7 @@ use lib.ListN.{length}
 use Rattle.lexer.specs.Table.{tokenRoom, rowsOf}
 use Rattle.grammar.specs.Grammars.{part, noRow, Names}
 use Rattle.grammar.specs.Nonterminals.{payloads3}
-use Rattle.grammar.specs.Nurl.{productions17}
+use Rattle.grammar.specs.Nurl.{productions}
 use Rattle.grammar.specs.Languages.{language17}
 use Rattle.grammar.specs.Sources.{viewOf}
 use Rattle.parser.proofs.Laws.After.{After, start, after-within, within-wider}
@@ -21,7 +21,7 @@ use Rattle.parser.proofs.expressions.payloads.Tie as tie
 abbrev Inv-loop : tie.InvT-loop
 Inv-loop tokens rows₀ left step₀ done₀ rows step done =
     (length rows ≡ length rows₀) × ((source : List ℕ) (e : Names) →
-    After productions17 (viewOf language17 source (rowsOf tokens)) (tokenRoom tokens) e left left noRow 0 0 (part payloads3 ∷ [])
+    After productions (viewOf language17 source (rowsOf tokens)) (tokenRoom tokens) e left left noRow 0 0 (part payloads3 ∷ [])
     (payloadsLeft done) step₀ rows₀ step rows)
 
 abbrev μ-loop : tie.MeasureT-loop
@@ -31,7 +31,7 @@ loop-holds : tie.Need-loop-holds Inv-loop μ-loop
 unfolding payloadsLeft
 loop-holds c =
     let pre = c .before .before .pre in
-    (refl, λ source e. start productions17 _ _ e (names-fixed source _ (pre .0) e) (pre .1))
+    (refl, λ source e. start productions _ _ e (names-fixed source _ (pre .0) e) (pre .1))
 
 begins-payload-requires : tie.Need-begins-payload-requires Inv-loop μ-loop
 begins-payload-requires c κs = search needs
@@ -60,7 +60,7 @@ payload-requires c κs =
     let if1 = c .before .if1 in
     let tokens = args .tokens .now in
     let good = pre .0 in
-    let reached = after-within productions17 _ tokens [] (names-fixed [] tokens good []) (loop .inv .1 [] []) in
+    let reached = after-within productions _ tokens [] (names-fixed [] tokens good []) (loop .inv .1 [] []) in
     (good, (within-wider tokens reached (omega arith), sym (begins-payload .ensures) ∙ not-false (begins-payload .result) (if1 .left)))
 
 add-done : tie.Need-add-done Inv-loop μ-loop

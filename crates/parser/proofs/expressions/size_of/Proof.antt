@@ -3,7 +3,7 @@ use mathlib.Core.Path.{_∙_}
 use mathlib.Core.List.{[]}
 use native.Mathlib.Omega.{arith}
 use Rattle.grammar.specs.Nonterminals.{expression}
-use Rattle.grammar.specs.Nurl.{productions17}
+use Rattle.grammar.specs.Nurl.{productions}
 use Rattle.parser.proofs.Laws.After.{within-small, within-wider}
 use Rattle.parser.proofs.Laws.Views.{names-fixed}
 use Rattle.parser.proofs.Laws.Readers.{level-below, opened-within, closing, closed-by}
@@ -39,7 +39,7 @@ close-row-requires c κs =
     let open-row = c .before .before .before .before .before .open-row in
     let read-type = c .before .before .before .read-type in
     let tokens = args .tokens .now in
-    closing productions17 _ tokens [] (names-fixed [] tokens (pre .0) []) (pre .0) (pre .1 .0)
+    closing productions _ tokens [] (names-fixed [] tokens (pre .0) []) (pre .0) (pre .1 .0)
     (size-of [] tokens (pre .0) [] (pre .1 .1 .1) (pre .1 .0) (level-below (pre .1 .1 .0)) (open-row .ensures) (read-type .ensures [] []))
 
 same-length : tie.Need-same-length
@@ -57,7 +57,7 @@ returns c =
     let close-row = c .before .before .close-row in
     λ source e.
     let tokens = args .tokens .now in
-    closed-by productions17 _ tokens e (names-fixed source tokens (pre .0) e)
+    closed-by productions _ tokens e (names-fixed source tokens (pre .0) e)
     (size-of source tokens (pre .0) e (pre .1 .1 .1) (pre .1 .0) (level-below (pre .1 .1 .0)) (open-row .ensures)
     (read-type .ensures source e)) (omega arith) (close-row .ensures .0) (close-row .ensures .1)
 

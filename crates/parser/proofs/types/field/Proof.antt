@@ -2,7 +2,7 @@
 use mathlib.Core.Path.{_∙_}
 use mathlib.Core.List.{[]}
 use native.Mathlib.Nat.{pos-of-ne-zero}
-use Rattle.grammar.specs.Nurl.{productions17}
+use Rattle.grammar.specs.Nurl.{productions}
 use Rattle.parser.proofs.Laws.After.{reads-within, within-small, within-wider}
 use Rattle.parser.proofs.Laws.Views.{names-fixed}
 use Rattle.parser.proofs.Laws.Steps.{reserved-within}
@@ -49,7 +49,7 @@ take-if-requires c κs =
     let tokens = args .tokens .now in
     let good = pre .0 in
     within-small tokens (good .few) (omega arith)
-    (reads-within productions17 _ tokens [] (names-fixed [] tokens good []) (read-type .ensures [] []))
+    (reads-within productions _ tokens [] (names-fixed [] tokens good []) (read-type .ensures [] []))
 
 close-row-requires : tie.Need-close-row-requires
 close-row-requires c κs =
@@ -61,7 +61,7 @@ close-row-requires c κs =
     let take-if = c .before .take-if in
     let tokens = args .tokens .now in
     let good = pre .0 in
-    closing productions17 _ tokens [] (names-fixed [] tokens good []) good (within-wider tokens (pre .1 .0) (omega arith))
+    closing productions _ tokens [] (names-fixed [] tokens good []) good (within-wider tokens (pre .1 .0) (omega arith))
     (field-read [] tokens good [] (pre .1 .1) (pre .1 .0) (level-below (pos-of-ne-zero (if1 .left))) (reserve-row .ensures)
     (read-type .ensures [] []) (take-if .ensures))
 
@@ -83,7 +83,7 @@ returns-2 c =
     λ source e.
     let tokens = args .tokens .now in
     let good = pre .0 in
-    closed-by productions17 _ tokens e (names-fixed source tokens good e)
+    closed-by productions _ tokens e (names-fixed source tokens good e)
     (field-read source tokens good e (pre .1 .1) (pre .1 .0) (level-below (pos-of-ne-zero (if1 .left))) (reserve-row .ensures)
     (read-type .ensures source e) (take-if .ensures)) (omega arith) (close-row .ensures .0) (close-row .ensures .1)
 

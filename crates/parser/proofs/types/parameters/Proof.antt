@@ -6,7 +6,7 @@ use lib.ListN.{length}
 use Rattle.lexer.specs.Table.{tokenRoom, rowsOf}
 use Rattle.grammar.specs.Grammars.{part, noRow, Names}
 use Rattle.grammar.specs.Nonterminals.{type, parameters as parameterList}
-use Rattle.grammar.specs.Nurl.{productions17}
+use Rattle.grammar.specs.Nurl.{productions}
 use Rattle.grammar.specs.Languages.{language17}
 use Rattle.grammar.specs.Sources.{viewOf}
 use Rattle.parser.proofs.Laws.After.{After, start, after-within}
@@ -21,7 +21,7 @@ use Rattle.parser.proofs.types.parameters.Tie as tie
 abbrev Inv-loop : tie.InvT-loop
 Inv-loop tokens rows₀ left step₀ rows step =
     (length rows ≡ length rows₀) × ((source : List ℕ) (e : Names) →
-    After productions17 (viewOf language17 source (rowsOf tokens)) (tokenRoom tokens) e left left noRow 0 0 (part parameterList ∷ [])
+    After productions (viewOf language17 source (rowsOf tokens)) (tokenRoom tokens) e left left noRow 0 0 (part parameterList ∷ [])
     (part parameterList ∷ []) step₀ rows₀ step rows)
 
 abbrev μ-loop : tie.MeasureT-loop
@@ -30,7 +30,7 @@ abbrev μ-loop : tie.MeasureT-loop
 loop-holds : tie.Need-loop-holds Inv-loop μ-loop
 loop-holds c =
     let pre = c .before .before .pre in
-    (refl, λ source e. start productions17 _ _ e (names-fixed source _ (pre .0) e) (pre .1))
+    (refl, λ source e. start productions _ _ e (names-fixed source _ (pre .0) e) (pre .1))
 
 begins-type-requires : tie.Need-begins-type-requires Inv-loop μ-loop
 begins-type-requires c κs = search needs
@@ -46,7 +46,7 @@ parameter-requires c κs =
     let good = pre .0 in (
       good,
       (
-        after-within productions17 _ tokens [] (names-fixed [] tokens good []) (loop .inv .1 [] []),
+        after-within productions _ tokens [] (names-fixed [] tokens good []) (loop .inv .1 [] []),
         sym (begins-type .ensures) ∙ if1 .taken,
       ),
     )

@@ -1,7 +1,7 @@
 -- `parser::words::list` meets its contract. Assumes nothing.
 use mathlib.Core.List.{[]}
 use native.Mathlib.Nat.{pos-of-ne-zero}
-use Rattle.grammar.specs.Nurl.{productions17}
+use Rattle.grammar.specs.Nurl.{productions}
 use Rattle.parser.proofs.Laws.After.{reads-within, within-small, within-wider}
 use Rattle.parser.proofs.Laws.Views.{names-fixed}
 use Rattle.parser.proofs.Laws.Readers.{level-below, within-word, closing, closed-by}
@@ -55,7 +55,7 @@ take-requires c κs =
     let tokens = args .tokens .now in
     let good = pre .0 in
     within-small tokens (good .few) (omega arith)
-    (reads-within productions17 _ tokens [] (names-fixed [] tokens good []) (c .more-words .ensures 0 [] [] []))
+    (reads-within productions _ tokens [] (names-fixed [] tokens good []) (c .more-words .ensures 0 [] [] []))
 
 close-row-requires : tie.Need-close-row-requires
 close-row-requires c κs =
@@ -71,7 +71,7 @@ close-row-requires c κs =
     let some = pos-of-ne-zero (if1 .left) in
     let level = level-below some in
     let within = within-wider tokens {more' = 1} (pre .1 .0) (omega arith) in
-    closing productions17 _ tokens [] (names-fixed [] tokens good []) good within
+    closing productions _ tokens [] (names-fixed [] tokens good []) good within
     (list-read [] tokens good [] (args .keywords) {t = args .rows .now} (pre .1 .1) within level
     (open-row .ensures) (take-word .ensures) (more-words .ensures _ _ [] []) (take .ensures))
 
@@ -96,7 +96,7 @@ returns-2 c =
     let some = pos-of-ne-zero (if1 .left) in
     let level = level-below some in
     let within = within-wider tokens {more' = 1} (pre .1 .0) (omega arith) in
-    closed-by productions17 _ tokens e (names-fixed source tokens good e)
+    closed-by productions _ tokens e (names-fixed source tokens good e)
     (list-read source tokens good e (args .keywords) (pre .1 .1) within level
     (open-row .ensures) (take-word .ensures) (more-words .ensures _ _ source e) (take .ensures)) (omega arith)
     (close-row .ensures .0) (close-row .ensures .1)

@@ -2,7 +2,7 @@ use Prim.Native.Nat.{ℕ}
 use mathlib.Core.List.{List, [], _∷_}
 use Rattle.lexer.specs.Table.{tokenRoom, rowsOf}
 use Rattle.grammar.specs.Grammars.{part, noRow, Names}
-use Rattle.grammar.specs.Nurl.{productions17}
+use Rattle.grammar.specs.Nurl.{productions}
 use Rattle.grammar.specs.Languages.{language17}
 use Rattle.grammar.specs.Sources.{viewOf}
 use Rattle.parser.proofs.Laws.After.{After, start, done, after-within, within-small}
@@ -16,7 +16,7 @@ use Rattle.parser.proofs.words.more_words.Tie as tie
 
 abbrev Inv-loop : tie.InvT-loop
 Inv-loop tokens keywords step₀ step =
-    (n : ℕ) (table source : List ℕ) (e : Names) → After productions17 (viewOf language17 source (rowsOf tokens)) (tokenRoom tokens) e n n
+    (n : ℕ) (table source : List ℕ) (e : Names) → After productions (viewOf language17 source (rowsOf tokens)) (tokenRoom tokens) e n n
     noRow 0 0 (part (moreOf keywords) ∷ []) (part (moreOf keywords) ∷ []) step₀ table step table
 
 abbrev μ-loop : tie.MeasureT-loop
@@ -26,7 +26,7 @@ abbrev μ-loop : tie.MeasureT-loop
 loop-holds : tie.Need-loop-holds Inv-loop μ-loop
 loop-holds c =
     let pre = c .before .pre in
-    λ n table source e. start productions17 _ _ e (names-fixed source _ (pre .0) e) (pre .1)
+    λ n table source e. start productions _ _ e (names-fixed source _ (pre .0) e) (pre .1)
 
 -- src/words.rt:81:19
 next-kind-requires : tie.Need-next-kind-requires Inv-loop μ-loop
@@ -43,7 +43,7 @@ take-word-requires c κs =
     let pre = c .before .before .before .before .before .pre in
     let loop = c .before .before .before .loop in
     let tokens = args .tokens .now in
-    let within = after-within productions17 _ tokens [] (names-fixed [] tokens (pre .0) []) (loop .inv 0 [] [] []) in
+    let within = after-within productions _ tokens [] (names-fixed [] tokens (pre .0) []) (loop .inv 0 [] [] []) in
     within-small tokens (pre .0 .few) (omega arith) within
 
 -- src/words.rt:81:5
@@ -77,7 +77,7 @@ returns c =
     let is-word = c .before .is-word in
     λ n table source e.
     let tokens = args .tokens .now in
-    done productions17 _ tokens e (names-fixed source tokens (pre .0) e)
+    done productions _ tokens e (names-fixed source tokens (pre .0) e)
     (words-done source _ (pre .0) e (args .keywords) (loop .inv n table source e)
     (rw (← next-kind .ensures, ← is-word .ensures) (c .if1 .left)))
 

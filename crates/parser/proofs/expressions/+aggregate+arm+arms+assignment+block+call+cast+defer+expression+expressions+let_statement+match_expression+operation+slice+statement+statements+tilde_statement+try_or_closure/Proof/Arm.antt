@@ -3,7 +3,7 @@ use mathlib.Core.Path.{refl, _∙_}
 use mathlib.Core.List.{[]}
 use native.Mathlib.Nat.{pos-of-ne-zero}
 use Rattle.lexer.specs.Tests.{or, among}
-use Rattle.grammar.specs.Nurl.{productions17}
+use Rattle.grammar.specs.Nurl.{productions}
 use Rattle.parser.specs.Readings.{namesIn}
 use Rattle.parser.proofs.Laws.After.{reads-within, within-small, within-wider}
 use Rattle.parser.proofs.Laws.Views.{names-fixed}
@@ -79,7 +79,7 @@ take-requires t c κs =
     let tokens = args .tokens .now in
     let good = pre .1 .0 in
     within-small tokens (good .few) (omega arith)
-    (reads-within productions17 _ tokens [] (names-fixed [] tokens good []) (payloads .ensures [] []))
+    (reads-within productions _ tokens [] (names-fixed [] tokens good []) (payloads .ensures [] []))
 
 sub-expression : (t : ℕ) → lts.Need-sub-expression (cs t) (given.arm-at t) arm.Post
 sub-expression t c =
@@ -96,7 +96,7 @@ expression-requires t c κs =
     let tokens = args .tokens .now in
     let good = pre .1 .0 in
     let some = pos-of-ne-zero (if1 .left) in
-    let bound = reads-within productions17 _ tokens [] (names-fixed [] tokens good []) (payloads .ensures [] []) in
+    let bound = reads-within productions _ tokens [] (names-fixed [] tokens good []) (payloads .ensures [] []) in
     (omega (arith, pre .0, some), (good, within-wider tokens (within-mark tokens 41 (take .ensures) bound) (omega arith)))
 
 close-row-requires : (t : ℕ) → lts.Need-close-row-requires (cs t) (given.arm-at t) arm.Post
@@ -114,7 +114,7 @@ close-row-requires t c κs =
     let tokens = args .tokens .now in
     let good = pre .1 .0 in
     let e = namesIn source (args .names .now) tokens (args .scope) in
-    closing productions17 _ tokens e (names-fixed source tokens good e) good (pre .1 .1 .0)
+    closing productions _ tokens e (names-fixed source tokens good e) good (pre .1 .1 .0)
     (arm-whole source tokens good e (pre .1 .1 .1) (pre .1 .1 .0) (level-below (pos-of-ne-zero (if1 .left))) (open-row .ensures)
     (payloads .ensures source e) (take .ensures) (expression .ensures))
 
@@ -141,7 +141,7 @@ returns-2 t c =
     let tokens = args .tokens .now in
     let good = pre .1 .0 in
     let e = namesIn source (args .names .now) tokens (args .scope) in
-    closed-by productions17 _ tokens e (names-fixed source tokens good e)
+    closed-by productions _ tokens e (names-fixed source tokens good e)
     (arm-whole source tokens good e (pre .1 .1 .1) (pre .1 .1 .0) (level-below (pos-of-ne-zero (if1 .left))) (open-row .ensures)
     (payloads .ensures source e) (take .ensures) (expression .ensures))
     (omega arith) (close-row .ensures .0) (close-row .ensures .1)

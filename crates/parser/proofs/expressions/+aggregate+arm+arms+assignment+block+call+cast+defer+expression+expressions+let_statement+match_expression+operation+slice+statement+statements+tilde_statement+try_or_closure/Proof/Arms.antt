@@ -7,7 +7,7 @@ use Rattle.lexer.specs.Tests.{among}
 use Rattle.lexer.specs.Table.{tokenRoom, rowsOf}
 use Rattle.grammar.specs.Grammars.{part, noRow}
 use Rattle.grammar.specs.Nonterminals.{arms as armList}
-use Rattle.grammar.specs.Nurl.{productions17}
+use Rattle.grammar.specs.Nurl.{productions}
 use Rattle.grammar.specs.Languages.{language17}
 use Rattle.grammar.specs.Sources.{viewOf}
 use Rattle.parser.specs.Steps.{wordKinds}
@@ -36,7 +36,7 @@ head-kind = word-kind false
 
 abbrev Inv-loop : lts.InvT-loop
 Inv-loop source names tokens rows₀ scope left step₀ rows step =
-    (length rows ≡ length rows₀) × (After productions17 (viewOf language17 source (rowsOf tokens)) (tokenRoom tokens)
+    (length rows ≡ length rows₀) × (After productions (viewOf language17 source (rowsOf tokens)) (tokenRoom tokens)
     (namesIn source names tokens scope) left left noRow 0 0 (part armList ∷ []) (part armList ∷ []) step₀ rows₀ step rows)
 
 abbrev μ-loop : lts.MeasureT-loop
@@ -49,7 +49,7 @@ loop-holds t c =
     let source = args .source .now in
     let tokens = args .tokens .now in
     let e = namesIn source (args .names .now) tokens (args .scope) in
-    (refl, start productions17 _ tokens e (names-fixed source tokens (pre .1 .0) e) (pre .1 .1))
+    (refl, start productions _ tokens e (names-fixed source tokens (pre .1 .0) e) (pre .1 .1))
 
 begins-arm-requires : (t : ℕ) → lts.Need-begins-arm-requires (cs t) (given.arms-at t) arms.Post Inv-loop μ-loop
 begins-arm-requires t c κs = search needs
@@ -65,7 +65,7 @@ arm-requires t c κs =
     let tokens = args .tokens .now in
     let good = pre .1 .0 in
     let e = namesIn source (args .names .now) tokens (args .scope) in
-    let reached = after-within productions17 _ tokens e (names-fixed source tokens good e) (loop .inv .1) in
+    let reached = after-within productions _ tokens e (names-fixed source tokens good e) (loop .inv .1) in
     (omega (arith, pre .0), (good, (within-wider tokens reached (omega arith), sym (begins-arm .ensures) ∙ if1 .taken)))
 
 loop-less : (t : ℕ) → lts.Need-loop-less (cs t) (given.arms-at t) arms.Post Inv-loop μ-loop

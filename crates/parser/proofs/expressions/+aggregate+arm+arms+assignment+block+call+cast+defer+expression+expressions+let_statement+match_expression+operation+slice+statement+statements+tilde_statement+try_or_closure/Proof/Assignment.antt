@@ -1,7 +1,7 @@
 -- `assignment`'s part of the cycle's proof.
 use mathlib.Core.Path.{sym, _∙_}
 use Rattle.grammar.specs.Nonterminals.{statement}
-use Rattle.grammar.specs.Nurl.{productions17}
+use Rattle.grammar.specs.Nurl.{productions}
 use Rattle.parser.specs.Readings.{namesIn}
 use Rattle.parser.proofs.Laws.After.{reads-within, within-small, within-wider}
 use Rattle.parser.proofs.Laws.Views.{names-fixed}
@@ -82,7 +82,7 @@ expression-requires-2 t c κs =
     let tokens = args .tokens .now in
     let good = pre .1 .0 in
     let e = namesIn source (args .names .now) tokens (args .scope) in
-    let whole = reads-within productions17 _ tokens e (names-fixed source tokens good e) (expression .ensures) in
+    let whole = reads-within productions _ tokens e (names-fixed source tokens good e) (expression .ensures) in
     (omega (arith, pre .0, pre .1 .1 .1 .0), (good, within-wider tokens whole (omega arith)))
 
 sub-expression-3 : (t : ℕ) → lts.Need-sub-expression-3 (cs t) (given.assignment-at t) assignment.Post
@@ -102,7 +102,7 @@ expression-requires-3 t c κs =
     let tokens = args .tokens .now in
     let good = pre .1 .0 in
     let e = namesIn source (args .names .now) tokens (args .scope) in
-    let index = reads-within productions17 _ tokens e (names-fixed source tokens good e) (expression2 .ensures) in
+    let index = reads-within productions _ tokens e (names-fixed source tokens good e) (expression2 .ensures) in
     (omega (arith, pre .0, pre .1 .1 .1 .0), (good, within-wider tokens index (omega arith)))
 
 close-row-requires : (t : ℕ) → lts.Need-close-row-requires (cs t) (given.assignment-at t) assignment.Post
@@ -124,7 +124,7 @@ close-row-requires t c κs =
     let tokens = args .tokens .now in
     let good = pre .1 .0 in
     let e = namesIn source (args .names .now) tokens (args .scope) in
-    closing productions17 _ tokens e (names-fixed source tokens good e) good (pre .1 .1 .0)
+    closing productions _ tokens e (names-fixed source tokens good e) good (pre .1 .1 .0)
     (set-element source tokens good e (pre .1 .1 .1 .1) (pre .1 .1 .0) (level-below (pre .1 .1 .1 .0)) (open-row .ensures)
     (sym (next-is .ensures) ∙ if1 .taken) (take .ensures) (expression .ensures) (expression2 .ensures) (expression3 .ensures))
 
@@ -161,7 +161,7 @@ returns t c =
     let tokens = args .tokens .now in
     let good = pre .1 .0 in
     let e = namesIn source (args .names .now) tokens (args .scope) in
-    closed-by productions17 _ tokens e (names-fixed source tokens good e)
+    closed-by productions _ tokens e (names-fixed source tokens good e)
     (set-element source tokens good e (pre .1 .1 .1 .1) (pre .1 .1 .0) (level-below (pre .1 .1 .1 .0)) (open-row .ensures)
     (sym (next-is .ensures) ∙ if1 .taken) (take .ensures) (expression .ensures) (expression2 .ensures) (expression3 .ensures))
     (omega arith) (close-row .ensures .0) (close-row .ensures .1)
@@ -204,7 +204,7 @@ close-row-requires-2 t c κs =
     let tokens = args .tokens .now in
     let good = pre .1 .0 in
     let e = namesIn source (args .names .now) tokens (args .scope) in
-    closing productions17 _ tokens e (names-fixed source tokens good e) good (pre .1 .1 .0)
+    closing productions _ tokens e (names-fixed source tokens good e) good (pre .1 .1 .0)
     (set-name source tokens good e (pre .1 .1 .1 .1) (pre .1 .1 .0) (level-below (pre .1 .1 .1 .0)) (open-row .ensures)
     (sym (next-is .ensures) ∙ if1 .left) (take2 .ensures) (expression4 .ensures))
 
@@ -230,7 +230,7 @@ returns-2 t c =
     let tokens = args .tokens .now in
     let good = pre .1 .0 in
     let e = namesIn source (args .names .now) tokens (args .scope) in
-    closed-by productions17 _ tokens e (names-fixed source tokens good e)
+    closed-by productions _ tokens e (names-fixed source tokens good e)
     (set-name source tokens good e (pre .1 .1 .1 .1) (pre .1 .1 .0) (level-below (pre .1 .1 .1 .0)) (open-row .ensures)
     (sym (next-is .ensures) ∙ if1 .left) (take2 .ensures) (expression4 .ensures))
     (omega arith) (close-row2 .ensures .0) (close-row2 .ensures .1)

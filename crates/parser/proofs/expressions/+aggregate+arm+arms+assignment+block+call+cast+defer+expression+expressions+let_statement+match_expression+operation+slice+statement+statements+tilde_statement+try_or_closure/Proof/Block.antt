@@ -4,7 +4,7 @@ use borrow.Author.Tests.{not-true, not-false}
 use native.Mathlib.Nat.{pos-of-ne-zero}
 use lib.Dec.{eqb}
 use Rattle.lexer.specs.Kinds.{leftBrace}
-use Rattle.grammar.specs.Nurl.{productions17}
+use Rattle.grammar.specs.Nurl.{productions}
 use Rattle.parser.specs.Readings.{namesIn}
 use Rattle.parser.proofs.Laws.After.{reads-within, within-small}
 use Rattle.parser.proofs.Laws.Views.{names-fixed}
@@ -107,7 +107,7 @@ take-requires t c κs =
     let good = pre .1 .0 in
     let e = namesIn (args .source .now) (args .names .now) tokens (args .scope) in
     within-small tokens (good .few) (omega arith)
-    (reads-within productions17 _ tokens e (names-fixed (args .source .now) tokens good e) (statements .ensures))
+    (reads-within productions _ tokens e (names-fixed (args .source .now) tokens good e) (statements .ensures))
 
 close-row-requires : (t : ℕ) → lts.Need-close-row-requires (cs t) (given.block-at t) block.Post
 close-row-requires t c κs =
@@ -124,7 +124,7 @@ close-row-requires t c κs =
     let good = pre .1 .0 in
     let e = namesIn source (args .names .now) tokens (args .scope) in
     let braced = sym (next-is .ensures) ∙ not-false (next-is .result) (if1 .left) in
-    closing productions17 _ tokens e (names-fixed source tokens good e) good (pre .1 .1)
+    closing productions _ tokens e (names-fixed source tokens good e) good (pre .1 .1)
     (block-whole source tokens good e braced (pre .1 .1) (level-below (pos-of-ne-zero (if2 .left))) (open-row .ensures)
     (statements .ensures) (take .ensures))
 
@@ -151,7 +151,7 @@ returns-3 t c =
     let good = start .pre .1 .0 in
     let e = namesIn source (start .args .names .now) tokens (start .args .scope) in
     let braced = sym (next-is .ensures) ∙ not-false (next-is .result) (if1 .left) in
-    closed-by productions17 _ tokens e (names-fixed source tokens good e)
+    closed-by productions _ tokens e (names-fixed source tokens good e)
     (block-whole source tokens good e braced within (level-below (pos-of-ne-zero (if2 .left))) (open-row .ensures)
     (statements .ensures) (take .ensures)) (omega arith) (close-row .ensures .0) (close-row .ensures .1)
 

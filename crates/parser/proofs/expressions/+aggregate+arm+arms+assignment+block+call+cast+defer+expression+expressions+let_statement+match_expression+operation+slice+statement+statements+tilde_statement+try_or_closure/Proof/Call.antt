@@ -2,7 +2,7 @@
 use mathlib.Core.Path.{_∙_}
 use mathlib.Core.List.{[]}
 use Rattle.grammar.specs.Nonterminals.{expression}
-use Rattle.grammar.specs.Nurl.{productions17}
+use Rattle.grammar.specs.Nurl.{productions}
 use Rattle.parser.specs.Readings.{namesIn}
 use Rattle.parser.proofs.Laws.After.{reads-within, within-small}
 use Rattle.parser.proofs.Laws.Views.{names-fixed}
@@ -76,7 +76,7 @@ expressions-requires t c κs =
     let tokens = args .tokens .now in
     let good = pre .1 .0 in (
       omega (arith, pre .0, pre .1 .1 .1 .0),
-      (good, reads-within productions17 _ tokens [] (names-fixed [] tokens good []) (optional-list .ensures [] [])),
+      (good, reads-within productions _ tokens [] (names-fixed [] tokens good []) (optional-list .ensures [] [])),
     )
 
 take-requires-2 : (t : ℕ) → lts.Need-take-requires-2 (cs t) (given.call-at t) call.Post
@@ -89,7 +89,7 @@ take-requires-2 t c κs =
     let good = pre .1 .0 in
     let e = namesIn source (args .names .now) tokens (args .scope) in
     within-small tokens (good .few) (omega arith)
-    (reads-within productions17 _ tokens e (names-fixed source tokens good e) (expressions .ensures))
+    (reads-within productions _ tokens e (names-fixed source tokens good e) (expressions .ensures))
 
 close-row-requires : (t : ℕ) → lts.Need-close-row-requires (cs t) (given.call-at t) call.Post
 close-row-requires t c κs =
@@ -106,7 +106,7 @@ close-row-requires t c κs =
     let tokens = args .tokens .now in
     let good = pre .1 .0 in
     let e = namesIn source (args .names .now) tokens (args .scope) in
-    closing productions17 _ tokens e (names-fixed source tokens good e) good (pre .1 .1 .0)
+    closing productions _ tokens e (names-fixed source tokens good e) good (pre .1 .1 .0)
     (call source tokens good e (pre .1 .1 .1 .1) (pre .1 .1 .0) (level-below (pre .1 .1 .1 .0)) (open-row .ensures)
     (take .ensures) (optional-list .ensures source e) (expressions .ensures) (take2 .ensures))
 
@@ -134,7 +134,7 @@ returns t c =
     let tokens = args .tokens .now in
     let good = pre .1 .0 in
     let e = namesIn source (args .names .now) tokens (args .scope) in
-    closed-by productions17 _ tokens e (names-fixed source tokens good e)
+    closed-by productions _ tokens e (names-fixed source tokens good e)
     (call source tokens good e (pre .1 .1 .1 .1) (pre .1 .1 .0) (level-below (pre .1 .1 .1 .0)) (open-row .ensures)
     (take .ensures) (optional-list .ensures source e) (expressions .ensures) (take2 .ensures)) (omega arith)
     (close-row .ensures .0) (close-row .ensures .1)

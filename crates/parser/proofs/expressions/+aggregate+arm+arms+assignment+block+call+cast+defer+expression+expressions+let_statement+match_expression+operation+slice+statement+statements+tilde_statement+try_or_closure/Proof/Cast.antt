@@ -2,7 +2,7 @@
 use mathlib.Core.Path.{_∙_}
 use mathlib.Core.List.{[]}
 use Rattle.grammar.specs.Nonterminals.{expression}
-use Rattle.grammar.specs.Nurl.{productions17}
+use Rattle.grammar.specs.Nurl.{productions}
 use Rattle.parser.specs.Readings.{namesIn}
 use Rattle.parser.proofs.Laws.After.{reads-within, within-small, within-wider}
 use Rattle.parser.proofs.Laws.Views.{names-fixed}
@@ -73,7 +73,7 @@ expression-requires t c κs =
     let read-type = c .before .before .before .read-type in
     let tokens = args .tokens .now in
     let good = pre .1 .0 in
-    let typed = reads-within productions17 _ tokens [] (names-fixed [] tokens good []) (read-type .ensures [] []) in
+    let typed = reads-within productions _ tokens [] (names-fixed [] tokens good []) (read-type .ensures [] []) in
     (omega (arith, pre .0, pre .1 .1 .1 .0), (good, within-wider tokens typed (omega arith)))
 
 sub-selector : (t : ℕ) → lts.Need-sub-selector (cs t) (given.cast-at t) cast.Post
@@ -93,7 +93,7 @@ selector-requires t c κs =
     let tokens = args .tokens .now in
     let good = pre .1 .0 in
     let e = namesIn source (args .names .now) tokens (args .scope) in
-    (good, reads-within productions17 _ tokens e (names-fixed source tokens good e) (expression .ensures))
+    (good, reads-within productions _ tokens e (names-fixed source tokens good e) (expression .ensures))
 
 close-row-requires : (t : ℕ) → lts.Need-close-row-requires (cs t) (given.cast-at t) cast.Post
 close-row-requires t c κs =
@@ -113,7 +113,7 @@ close-row-requires t c κs =
     let tokens = args .tokens .now in
     let good = pre .1 .0 in
     let e = namesIn source (args .names .now) tokens (args .scope) in
-    closing productions17 _ tokens e (names-fixed source tokens good e) good (pre .1 .1 .0)
+    closing productions _ tokens e (names-fixed source tokens good e) good (pre .1 .1 .0)
     (pointer-cast source tokens good e (pre .1 .1 .1 .1) (pre .1 .1 .0) (level-below (pre .1 .1 .1 .0)) (open-row .ensures)
     (next-is .ensures) (if1 .taken) (read-type .ensures source e) (expression .ensures) (selector .ensures e))
 
@@ -146,7 +146,7 @@ returns t c =
     let tokens = args .tokens .now in
     let good = pre .1 .0 in
     let e = namesIn source (args .names .now) tokens (args .scope) in
-    closed-by productions17 _ tokens e (names-fixed source tokens good e)
+    closed-by productions _ tokens e (names-fixed source tokens good e)
     (pointer-cast source tokens good e (pre .1 .1 .1 .1) (pre .1 .1 .0) (level-below (pre .1 .1 .1 .0)) (open-row .ensures)
     (next-is .ensures) (if1 .taken) (read-type .ensures source e) (expression .ensures) (selector .ensures e)) (omega arith)
     (close-row .ensures .0) (close-row .ensures .1)
@@ -166,7 +166,7 @@ close-row-requires-2 t c κs =
     let tokens = args .tokens .now in
     let good = pre .1 .0 in
     let e = namesIn source (args .names .now) tokens (args .scope) in
-    closing productions17 _ tokens e (names-fixed source tokens good e) good (pre .1 .1 .0)
+    closing productions _ tokens e (names-fixed source tokens good e) good (pre .1 .1 .0)
     (plain-cast source tokens good e (pre .1 .1 .1 .1) (pre .1 .1 .0) (level-below (pre .1 .1 .1 .0)) (open-row .ensures)
     (next-is .ensures) (if1 .left) (read-type .ensures source e) (expression .ensures))
 
@@ -194,7 +194,7 @@ returns-2 t c =
     let tokens = args .tokens .now in
     let good = pre .1 .0 in
     let e = namesIn source (args .names .now) tokens (args .scope) in
-    closed-by productions17 _ tokens e (names-fixed source tokens good e)
+    closed-by productions _ tokens e (names-fixed source tokens good e)
     (plain-cast source tokens good e (pre .1 .1 .1 .1) (pre .1 .1 .0) (level-below (pre .1 .1 .1 .0)) (open-row .ensures)
     (next-is .ensures) (if1 .left) (read-type .ensures source e) (expression .ensures)) (omega arith)
     (close-row2 .ensures .0) (close-row2 .ensures .1)

@@ -1,7 +1,7 @@
 -- `defer`'s part of the cycle's proof.
 use mathlib.Core.Path.{_∙_}
 use Rattle.grammar.specs.Nonterminals.{statement as aStatement}
-use Rattle.grammar.specs.Nurl.{productions17}
+use Rattle.grammar.specs.Nurl.{productions}
 use Rattle.parser.specs.Readings.{namesIn}
 use Rattle.parser.proofs.Laws.After.{within-small, within-wider}
 use Rattle.parser.proofs.Laws.Views.{names-fixed}
@@ -50,7 +50,7 @@ close-row-requires t c κs =
     let tokens = args .tokens .now in
     let good = pre .1 .0 in
     let e = namesIn source (args .names .now) tokens (args .scope) in
-    closing productions17 _ tokens e (names-fixed source tokens good e) good (pre .1 .1 .0)
+    closing productions _ tokens e (names-fixed source tokens good e) good (pre .1 .1 .0)
     (defer-block source tokens good e (pre .1 .1 .1 .1) (pre .1 .1 .0) (level-below (pre .1 .1 .1 .0)) (open-row .ensures)
     (block .ensures))
 
@@ -71,7 +71,7 @@ returns t c =
     let tokens = args .tokens .now in
     let good = pre .1 .0 in
     let e = namesIn source (args .names .now) tokens (args .scope) in
-    closed-by productions17 _ tokens e (names-fixed source tokens good e)
+    closed-by productions _ tokens e (names-fixed source tokens good e)
     (defer-block source tokens good e (pre .1 .1 .1 .1) (pre .1 .1 .0) (level-below (pre .1 .1 .1 .0)) (open-row .ensures)
     (block .ensures)) (omega arith) (close-row .ensures .0) (close-row .ensures .1)
 

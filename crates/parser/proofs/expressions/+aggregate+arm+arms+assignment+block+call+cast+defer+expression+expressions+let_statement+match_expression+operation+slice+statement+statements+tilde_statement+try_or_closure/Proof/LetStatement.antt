@@ -2,7 +2,7 @@
 use mathlib.Core.Path.{_∙_}
 use mathlib.Core.List.{[]}
 use Rattle.grammar.specs.Nonterminals.{statement}
-use Rattle.grammar.specs.Nurl.{productions17}
+use Rattle.grammar.specs.Nurl.{productions}
 use Rattle.parser.specs.Readings.{namesIn}
 use Rattle.parser.proofs.Laws.After.{reads-within, within-small, within-wider}
 use Rattle.parser.proofs.Laws.Views.{names-fixed}
@@ -100,7 +100,7 @@ close-row-requires t c κs =
     let tokens = args .tokens .now in
     let good = pre .1 .0 in
     let e = namesIn source (args .names .now) tokens (args .scope) in
-    closing productions17 _ tokens e (names-fixed source tokens good e) good (pre .1 .1 .0)
+    closing productions _ tokens e (names-fixed source tokens good e) good (pre .1 .1 .0)
     (let-plain source tokens good e (pre .1 .1 .1 .1) (pre .1 .1 .0) (level-below (pre .1 .1 .1 .0)) (open-row .ensures)
     (take-if .ensures) (rw (plain-name .ensures) at (if1 .taken)) (take .ensures) (expression .ensures))
 
@@ -127,7 +127,7 @@ returns t c =
     let tokens = args .tokens .now in
     let good = pre .1 .0 in
     let e = namesIn source (args .names .now) tokens (args .scope) in
-    closed-by productions17 _ tokens e (names-fixed source tokens good e)
+    closed-by productions _ tokens e (names-fixed source tokens good e)
     (let-plain source tokens good e (pre .1 .1 .1 .1) (pre .1 .1 .0) (level-below (pre .1 .1 .1 .0)) (open-row .ensures)
     (take-if .ensures) (rw (plain-name .ensures) at (if1 .taken)) (take .ensures) (expression .ensures))
     (omega arith) (close-row .ensures .0) (close-row .ensures .1)
@@ -155,7 +155,7 @@ take-requires-2 t c κs =
     let tokens = args .tokens .now in
     let good = pre .1 .0 in
     within-small tokens (good .few) (omega arith)
-    (reads-within productions17 _ tokens [] (names-fixed [] tokens good []) (read-type .ensures [] []))
+    (reads-within productions _ tokens [] (names-fixed [] tokens good []) (read-type .ensures [] []))
 
 sub-expression-2 : (t : ℕ) → lts.Need-sub-expression-2 (cs t) (given.let-statement-at t) let-statement.Post
 sub-expression-2 t c =
@@ -170,7 +170,7 @@ expression-requires-2 t c κs =
     let take2 = c .before .take2 in
     let tokens = args .tokens .now in
     let good = pre .1 .0 in
-    let typed = reads-within productions17 _ tokens [] (names-fixed [] tokens good []) (read-type .ensures [] []) in
+    let typed = reads-within productions _ tokens [] (names-fixed [] tokens good []) (read-type .ensures [] []) in
     let named = within-mark tokens 0 (take2 .ensures) typed in
     (omega (arith, pre .0, pre .1 .1 .1 .0), (good, within-wider tokens named (omega arith)))
 
@@ -191,7 +191,7 @@ close-row-requires-2 t c κs =
     let tokens = args .tokens .now in
     let good = pre .1 .0 in
     let e = namesIn source (args .names .now) tokens (args .scope) in
-    closing productions17 _ tokens e (names-fixed source tokens good e) good (pre .1 .1 .0)
+    closing productions _ tokens e (names-fixed source tokens good e) good (pre .1 .1 .0)
     (let-typed source tokens good e (pre .1 .1 .1 .1) (pre .1 .1 .0) (level-below (pre .1 .1 .1 .0)) (open-row .ensures)
     (take-if .ensures) (rw (plain-name .ensures) at (if1 .left)) (read-type .ensures source e) (take2 .ensures)
     (expression2 .ensures))
@@ -224,7 +224,7 @@ returns-2 t c =
     let tokens = args .tokens .now in
     let good = pre .1 .0 in
     let e = namesIn source (args .names .now) tokens (args .scope) in
-    closed-by productions17 _ tokens e (names-fixed source tokens good e)
+    closed-by productions _ tokens e (names-fixed source tokens good e)
     (let-typed source tokens good e (pre .1 .1 .1 .1) (pre .1 .1 .0) (level-below (pre .1 .1 .1 .0)) (open-row .ensures)
     (take-if .ensures) (rw (plain-name .ensures) at (if1 .left)) (read-type .ensures source e) (take2 .ensures)
     (expression2 .ensures))

@@ -1,7 +1,7 @@
 -- `match_expression`'s part of the cycle's proof.
 use mathlib.Core.Path.{_∙_}
 use Rattle.grammar.specs.Nonterminals.{expression as anExpression}
-use Rattle.grammar.specs.Nurl.{productions17}
+use Rattle.grammar.specs.Nurl.{productions}
 use Rattle.parser.specs.Readings.{namesIn}
 use Rattle.parser.proofs.Laws.After.{reads-within, within-small, within-wider}
 use Rattle.parser.proofs.Laws.Views.{names-fixed}
@@ -64,7 +64,7 @@ take-requires t c κs =
     let good = pre .1 .0 in
     let e = namesIn source (args .names .now) tokens (args .scope) in
     within-small tokens (good .few) (omega arith)
-    (reads-within productions17 _ tokens e (names-fixed source tokens good e) (expression .ensures))
+    (reads-within productions _ tokens e (names-fixed source tokens good e) (expression .ensures))
 
 sub-arms : (t : ℕ) → lts.Need-sub-arms (cs t) (given.match-expression-at t) match-expression.Post
 sub-arms t c =
@@ -81,7 +81,7 @@ arms-requires t c κs =
     let tokens = args .tokens .now in
     let good = pre .1 .0 in
     let e = namesIn source (args .names .now) tokens (args .scope) in
-    let from = reads-within productions17 _ tokens e (names-fixed source tokens good e) (expression .ensures) in
+    let from = reads-within productions _ tokens e (names-fixed source tokens good e) (expression .ensures) in
     (omega (arith, pre .0, pre .1 .1 .1 .0), (good, within-mark tokens 16 (take .ensures) from))
 
 take-requires-2 : (t : ℕ) → lts.Need-take-requires-2 (cs t) (given.match-expression-at t) match-expression.Post
@@ -94,7 +94,7 @@ take-requires-2 t c κs =
     let good = pre .1 .0 in
     let e = namesIn source (args .names .now) tokens (args .scope) in
     within-small tokens (good .few) (omega arith)
-    (reads-within productions17 _ tokens e (names-fixed source tokens good e) (arms .ensures))
+    (reads-within productions _ tokens e (names-fixed source tokens good e) (arms .ensures))
 
 close-row-requires : (t : ℕ) → lts.Need-close-row-requires (cs t) (given.match-expression-at t) match-expression.Post
 close-row-requires t c κs =
@@ -111,7 +111,7 @@ close-row-requires t c κs =
     let tokens = args .tokens .now in
     let good = pre .1 .0 in
     let e = namesIn source (args .names .now) tokens (args .scope) in
-    closing productions17 _ tokens e (names-fixed source tokens good e) good (pre .1 .1 .0)
+    closing productions _ tokens e (names-fixed source tokens good e) good (pre .1 .1 .0)
     (match-whole source tokens good e (pre .1 .1 .1 .1) (pre .1 .1 .0) (level-below (pre .1 .1 .1 .0)) (open-row .ensures)
     (expression .ensures) (take .ensures) (arms .ensures) (take2 .ensures))
 
@@ -139,7 +139,7 @@ returns t c =
     let tokens = args .tokens .now in
     let good = pre .1 .0 in
     let e = namesIn source (args .names .now) tokens (args .scope) in
-    closed-by productions17 _ tokens e (names-fixed source tokens good e)
+    closed-by productions _ tokens e (names-fixed source tokens good e)
     (match-whole source tokens good e (pre .1 .1 .1 .1) (pre .1 .1 .0) (level-below (pre .1 .1 .1 .0)) (open-row .ensures)
     (expression .ensures) (take .ensures) (arms .ensures) (take2 .ensures))
     (omega arith) (close-row .ensures .0) (close-row .ensures .1)

@@ -6,7 +6,7 @@ use lib.ListN.{length, replicate}
 use Rattle.lexer.specs.Table.{tokenRoom, rowsOf}
 use Rattle.grammar.specs.Grammars.{part, row}
 use Rattle.grammar.specs.Nonterminals.{expression as anExpression}
-use Rattle.grammar.specs.Nurl.{productions17}
+use Rattle.grammar.specs.Nurl.{productions}
 use Rattle.grammar.specs.Languages.{language17}
 use Rattle.grammar.specs.Sources.{viewOf}
 use Rattle.grammar.specs.Alternatives.{kindAlternative}
@@ -39,7 +39,7 @@ cs t = (
 abbrev Inv-loop : lts.InvT-loop
 Inv-loop source names tokens rows₀ scope from left count kind step₀ done₀ rows step done =
     (done ≤ count) × (length rows ≡ length rows₀) ×
-    After productions17 (viewOf language17 source (rowsOf tokens)) (tokenRoom tokens) (namesIn source names tokens scope) left (left - 1)
+    After productions (viewOf language17 source (rowsOf tokens)) (tokenRoom tokens) (namesIn source names tokens scope) left (left - 1)
     (row kind) 1 0 (part anExpression ∷ []) (replicate (count - done) (part anExpression)) from rows₀ step rows
 
 abbrev μ-loop : lts.MeasureT-loop
@@ -79,7 +79,7 @@ expression-requires t c κs =
     let tokens = args .tokens .now in
     let good = pre .1 .0 in
     let e = namesIn (args .source .now) (args .names .now) tokens (args .scope) in
-    let reached = after-within productions17 _ tokens e (names-fixed (args .source .now) tokens good e) (loop .inv .2) in
+    let reached = after-within productions _ tokens e (names-fixed (args .source .now) tokens good e) (loop .inv .2) in
     (omega (arith, pre .0, pre .1 .1 .1 .0), (good, within-wider tokens reached (omega arith)))
 
 add-done : (t : ℕ) → lts.Need-add-done (cs t) (given.operation-at t) operation.Post Inv-loop μ-loop
@@ -105,7 +105,7 @@ loop-again t c =
     let e = namesIn (args .source .now) (args .names .now) tokens (args .scope) in (
       omega (arith, loop-test .taken),
       expression .kept .1 .1 .1 .0 ∙ loop .inv .1,
-      operand productions17 _ tokens e (names-fixed (args .source .now) tokens good e) _ _ (loop-test .taken) (loop .inv .2)
+      operand productions _ tokens e (names-fixed (args .source .now) tokens good e) _ _ (loop-test .taken) (loop .inv .2)
           (expression .ensures),
     )
 
@@ -117,7 +117,7 @@ close-row-requires t c κs =
     let tokens = args .tokens .now in
     let good = pre .1 .0 in
     let e = namesIn (args .source .now) (args .names .now) tokens (args .scope) in
-    closing productions17 _ tokens e (names-fixed (args .source .now) tokens good e) good (pre .1 .1 .0) (loop .inv .2)
+    closing productions _ tokens e (names-fixed (args .source .now) tokens good e) good (pre .1 .1 .0) (loop .inv .2)
 
 same-length : (t : ℕ) → lts.Need-same-length (cs t) (given.operation-at t) operation.Post Inv-loop μ-loop
 same-length t c =
@@ -136,7 +136,7 @@ returns t c =
     let good = pre .1 .0 in
     let e = namesIn (args .source .now) (args .names .now) tokens (args .scope) in
     let all : args .count - loop .done ≡ 0 = omega (arith, loop-test .left) in
-    closed-by productions17 _ tokens e (names-fixed (args .source .now) tokens good e) (rw all at (loop .inv .2)) (omega arith)
+    closed-by productions _ tokens e (names-fixed (args .source .now) tokens good e) (rw all at (loop .inv .2)) (omega arith)
     (close-row .ensures .0) (close-row .ensures .1)
 
 pub met : {M : Type 1} (t : ℕ) → lts.Closed (cs t) (given.operation-at t) operation.Post M

@@ -5,7 +5,7 @@ use lib.ListN.{length}
 use Rattle.lexer.specs.Table.{tokenRoom, rowsOf}
 use Rattle.grammar.specs.Grammars.{part, noRow}
 use Rattle.grammar.specs.Nonterminals.{statements as statementList, statement as aStatement}
-use Rattle.grammar.specs.Nurl.{productions17}
+use Rattle.grammar.specs.Nurl.{productions}
 use Rattle.grammar.specs.Languages.{language17}
 use Rattle.grammar.specs.Sources.{viewOf}
 use Rattle.parser.specs.Readings.{namesIn}
@@ -29,7 +29,7 @@ cs t = (begins-statement-reads.Asked, begins-statement-reads.Learnt, given.state
 abbrev Inv-loop : lts.InvT-loop
 Inv-loop source names tokens rows₀ scope left step₀ rows step =
     (length rows ≡ length rows₀) ×
-    After productions17 (viewOf language17 source (rowsOf tokens)) (tokenRoom tokens) (namesIn source names tokens scope) left left
+    After productions (viewOf language17 source (rowsOf tokens)) (tokenRoom tokens) (namesIn source names tokens scope) left left
     noRow 0 0 (part statementList ∷ []) (part statementList ∷ []) step₀ rows₀ step rows
 
 abbrev μ-loop : lts.MeasureT-loop
@@ -42,7 +42,7 @@ loop-holds t c =
     let tokens = args .tokens .now in
     let good = pre .1 .0 in
     let e = namesIn (args .source .now) (args .names .now) tokens (args .scope) in
-    (refl, start productions17 _ tokens e (names-fixed (args .source .now) tokens good e) (pre .1 .1))
+    (refl, start productions _ tokens e (names-fixed (args .source .now) tokens good e) (pre .1 .1))
 
 begins-statement-requires : (t : ℕ) → lts.Need-begins-statement-requires (cs t) (given.statements-at t) statements.Post Inv-loop μ-loop
 begins-statement-requires t c κs = search needs
@@ -55,7 +55,7 @@ statement-requires t c κs =
     let tokens = args .tokens .now in
     let good = pre .1 .0 in
     let e = namesIn (args .source .now) (args .names .now) tokens (args .scope) in
-    let reached = after-within productions17 _ tokens e (names-fixed (args .source .now) tokens good e) (loop .inv .1) in
+    let reached = after-within productions _ tokens e (names-fixed (args .source .now) tokens good e) (loop .inv .1) in
     (omega (arith, pre .0), (good, within-wider tokens reached (omega arith)))
 
 loop-less : (t : ℕ) → lts.Need-loop-less (cs t) (given.statements-at t) statements.Post Inv-loop μ-loop

@@ -1,7 +1,7 @@
 -- `tilde_statement`'s part of the cycle's proof.
 use mathlib.Core.Path.{sym, _∙_}
 use Rattle.grammar.specs.Nonterminals.{statement}
-use Rattle.grammar.specs.Nurl.{productions17}
+use Rattle.grammar.specs.Nurl.{productions}
 use Rattle.parser.specs.Readings.{namesIn}
 use Rattle.parser.proofs.Laws.After.{reads-within, within-small, within-wider}
 use Rattle.parser.proofs.Laws.Views.{names-fixed}
@@ -88,7 +88,7 @@ block-requires t c κs =
     let tokens = args .tokens .now in
     let good = pre .1 .0 in
     let e = namesIn source (args .names .now) tokens (args .scope) in
-    let listed = reads-within productions17 _ tokens e (names-fixed source tokens good e) (expression .ensures) in
+    let listed = reads-within productions _ tokens e (names-fixed source tokens good e) (expression .ensures) in
     (omega (arith, pre .0, pre .1 .1 .1 .0), (good, within-wider tokens listed (omega arith)))
 
 close-row-requires : (t : ℕ) → lts.Need-close-row-requires (cs t) (given.tilde-statement-at t) tilde-statement.Post
@@ -107,7 +107,7 @@ close-row-requires t c κs =
     let tokens = args .tokens .now in
     let good = pre .1 .0 in
     let e = namesIn source (args .names .now) tokens (args .scope) in
-    closing productions17 _ tokens e (names-fixed source tokens good e) good (pre .1 .1 .0)
+    closing productions _ tokens e (names-fixed source tokens good e) good (pre .1 .1 .0)
     (for-each source tokens good e (pre .1 .1 .1 .1) (pre .1 .1 .0) (level-below (pre .1 .1 .1 .0)) (open-row .ensures)
     (sym (two-names .ensures source e) ∙ if1 .taken) (take .ensures) (expression .ensures) (block .ensures))
 
@@ -137,7 +137,7 @@ returns t c =
     let tokens = args .tokens .now in
     let good = pre .1 .0 in
     let e = namesIn source (args .names .now) tokens (args .scope) in
-    closed-by productions17 _ tokens e (names-fixed source tokens good e)
+    closed-by productions _ tokens e (names-fixed source tokens good e)
     (for-each source tokens good e (pre .1 .1 .1 .1) (pre .1 .1 .0) (level-below (pre .1 .1 .1 .0)) (open-row .ensures)
     (sym (two-names .ensures source e) ∙ if1 .taken) (take .ensures) (expression .ensures) (block .ensures))
     (omega arith) (close-row .ensures .0) (close-row .ensures .1)
@@ -173,7 +173,7 @@ block-requires-2 t c κs =
     let tokens = args .tokens .now in
     let good = pre .1 .0 in
     let e = namesIn source (args .names .now) tokens (args .scope) in
-    let tested = reads-within productions17 _ tokens e (names-fixed source tokens good e) (expression2 .ensures) in
+    let tested = reads-within productions _ tokens e (names-fixed source tokens good e) (expression2 .ensures) in
     (omega (arith, pre .0, pre .1 .1 .1 .0), (good, within-wider tokens tested (omega arith)))
 
 close-row-requires-2 : (t : ℕ) → lts.Need-close-row-requires-2 (cs t) (given.tilde-statement-at t) tilde-statement.Post
@@ -193,7 +193,7 @@ close-row-requires-2 t c κs =
     let tokens = args .tokens .now in
     let good = pre .1 .0 in
     let e = namesIn source (args .names .now) tokens (args .scope) in
-    closing productions17 _ tokens e (names-fixed source tokens good e) good (pre .1 .1 .0)
+    closing productions _ tokens e (names-fixed source tokens good e) good (pre .1 .1 .0)
     (while-loop source tokens good e (pre .1 .1 .1 .1) (pre .1 .1 .0) (level-below (pre .1 .1 .1 .0)) (open-row .ensures)
     (sym (two-names .ensures source e) ∙ if1 .left) (expression2 .ensures) (sym (next-is .ensures) ∙ if2 .taken)
     (block2 .ensures))
@@ -225,7 +225,7 @@ returns-2 t c =
     let tokens = args .tokens .now in
     let good = pre .1 .0 in
     let e = namesIn source (args .names .now) tokens (args .scope) in
-    closed-by productions17 _ tokens e (names-fixed source tokens good e)
+    closed-by productions _ tokens e (names-fixed source tokens good e)
     (while-loop source tokens good e (pre .1 .1 .1 .1) (pre .1 .1 .0) (level-below (pre .1 .1 .1 .0)) (open-row .ensures)
     (sym (two-names .ensures source e) ∙ if1 .left) (expression2 .ensures) (sym (next-is .ensures) ∙ if2 .taken)
     (block2 .ensures))
@@ -245,7 +245,7 @@ close-row-requires-3 t c κs =
     let tokens = args .tokens .now in
     let good = pre .1 .0 in
     let e = namesIn source (args .names .now) tokens (args .scope) in
-    closing productions17 _ tokens e (names-fixed source tokens good e) good (pre .1 .1 .0)
+    closing productions _ tokens e (names-fixed source tokens good e) good (pre .1 .1 .0)
     (tilde-complement source tokens good e (pre .1 .1 .1 .1) (pre .1 .1 .0) (level-below (pre .1 .1 .1 .0)) (open-row .ensures)
     (sym (two-names .ensures source e) ∙ if1 .left) (expression2 .ensures) (sym (next-is .ensures) ∙ if2 .left))
 
@@ -272,7 +272,7 @@ returns-3 t c =
     let tokens = args .tokens .now in
     let good = pre .1 .0 in
     let e = namesIn source (args .names .now) tokens (args .scope) in
-    closed-by productions17 _ tokens e (names-fixed source tokens good e)
+    closed-by productions _ tokens e (names-fixed source tokens good e)
     (tilde-complement source tokens good e (pre .1 .1 .1 .1) (pre .1 .1 .0) (level-below (pre .1 .1 .1 .0)) (open-row .ensures)
     (sym (two-names .ensures source e) ∙ if1 .left) (expression2 .ensures) (sym (next-is .ensures) ∙ if2 .left))
     (omega arith) (close-row3 .ensures .0) (close-row3 .ensures .1)

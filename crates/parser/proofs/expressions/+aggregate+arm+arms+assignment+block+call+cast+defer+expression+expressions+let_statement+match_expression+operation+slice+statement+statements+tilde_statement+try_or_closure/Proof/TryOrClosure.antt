@@ -2,7 +2,7 @@
 use mathlib.Core.Path.{_∙_}
 use mathlib.Core.List.{[]}
 use Rattle.grammar.specs.Nonterminals.{expression}
-use Rattle.grammar.specs.Nurl.{productions17}
+use Rattle.grammar.specs.Nurl.{productions}
 use Rattle.parser.specs.Readings.{namesIn}
 use Rattle.parser.proofs.Laws.After.{reads-within, within-small, within-wider}
 use Rattle.parser.proofs.Laws.Views.{names-fixed}
@@ -73,7 +73,7 @@ take-requires t c κs =
     let tokens = args .tokens .now in
     let good = pre .1 .0 in
     within-small tokens (good .few) (omega arith)
-    (reads-within productions17 _ tokens [] (names-fixed [] tokens good []) (parameters .ensures [] []))
+    (reads-within productions _ tokens [] (names-fixed [] tokens good []) (parameters .ensures [] []))
 
 sub-read-type : (t : ℕ) → lts.Need-sub-read-type (cs t) (given.try-or-closure-at t) try-or-closure.Post
 sub-read-type t c =
@@ -88,7 +88,7 @@ read-type-requires t c κs =
     let take = c .before .take in
     let tokens = args .tokens .now in
     let good = pre .1 .0 in
-    let listed = reads-within productions17 _ tokens [] (names-fixed [] tokens good []) (parameters .ensures [] []) in
+    let listed = reads-within productions _ tokens [] (names-fixed [] tokens good []) (parameters .ensures [] []) in
     (good, within-wider tokens (within-mark tokens 41 (take .ensures) listed) (omega arith))
 
 sub-block : (t : ℕ) → lts.Need-sub-block (cs t) (given.try-or-closure-at t) try-or-closure.Post
@@ -106,7 +106,7 @@ block-requires t c κs =
     let read-type = c .before .before .before .read-type in
     let tokens = args .tokens .now in
     let good = pre .1 .0 in
-    let typed = reads-within productions17 _ tokens [] (names-fixed [] tokens good []) (read-type .ensures [] []) in
+    let typed = reads-within productions _ tokens [] (names-fixed [] tokens good []) (read-type .ensures [] []) in
     (omega (arith, pre .0, pre .1 .1 .1 .0), (good, within-wider tokens typed (omega arith)))
 
 close-row-requires : (t : ℕ) → lts.Need-close-row-requires (cs t) (given.try-or-closure-at t) try-or-closure.Post
@@ -128,7 +128,7 @@ close-row-requires t c κs =
     let tokens = args .tokens .now in
     let good = pre .1 .0 in
     let e = namesIn source (args .names .now) tokens (args .scope) in
-    closing productions17 _ tokens e (names-fixed source tokens good e) good (pre .1 .1 .0)
+    closing productions _ tokens e (names-fixed source tokens good e) good (pre .1 .1 .0)
     (closure source tokens good e (pre .1 .1 .1 .1) (pre .1 .1 .0) (level-below (pre .1 .1 .1 .0)) (open-row .ensures)
     (opens-closure .ensures) (if1 .taken) (parameters .ensures source e) (take .ensures) (read-type .ensures source e)
     (block .ensures))
@@ -164,7 +164,7 @@ returns t c =
     let tokens = args .tokens .now in
     let good = pre .1 .0 in
     let e = namesIn source (args .names .now) tokens (args .scope) in
-    closed-by productions17 _ tokens e (names-fixed source tokens good e)
+    closed-by productions _ tokens e (names-fixed source tokens good e)
     (closure source tokens good e (pre .1 .1 .1 .1) (pre .1 .1 .0) (level-below (pre .1 .1 .1 .0)) (open-row .ensures)
     (opens-closure .ensures) (if1 .taken) (parameters .ensures source e) (take .ensures) (read-type .ensures source e)
     (block .ensures)) (omega arith) (close-row .ensures .0) (close-row .ensures .1)
@@ -195,7 +195,7 @@ close-row-requires-2 t c κs =
     let tokens = args .tokens .now in
     let good = pre .1 .0 in
     let e = namesIn source (args .names .now) tokens (args .scope) in
-    closing productions17 _ tokens e (names-fixed source tokens good e) good (pre .1 .1 .0)
+    closing productions _ tokens e (names-fixed source tokens good e) good (pre .1 .1 .0)
     (try-expression source tokens good e (pre .1 .1 .1 .1) (pre .1 .1 .0) (level-below (pre .1 .1 .1 .0)) (open-row .ensures)
     (opens-closure .ensures) (if1 .left) (expression .ensures))
 
@@ -220,7 +220,7 @@ returns-2 t c =
     let tokens = args .tokens .now in
     let good = pre .1 .0 in
     let e = namesIn source (args .names .now) tokens (args .scope) in
-    closed-by productions17 _ tokens e (names-fixed source tokens good e)
+    closed-by productions _ tokens e (names-fixed source tokens good e)
     (try-expression source tokens good e (pre .1 .1 .1 .1) (pre .1 .1 .0) (level-below (pre .1 .1 .1 .0)) (open-row .ensures)
     (opens-closure .ensures) (if1 .left) (expression .ensures)) (omega arith) (close-row2 .ensures .0) (close-row2 .ensures .1)
 

@@ -3,7 +3,7 @@ use mathlib.Core.Path.{_∙_, sym}
 use mathlib.Core.Bool.{true}
 use mathlib.Core.List.{[]}
 use Rattle.grammar.specs.Nonterminals.{type}
-use Rattle.grammar.specs.Nurl.{productions17}
+use Rattle.grammar.specs.Nurl.{productions}
 use Rattle.parser.proofs.Laws.After.{reads-within, within-small, within-wider}
 use Rattle.parser.proofs.Laws.Views.{names-fixed}
 use Rattle.parser.proofs.Laws.Readers.{level-below, opened-within, within-mark, within-word, closing, closed-by}
@@ -93,7 +93,7 @@ types-requires t c κs =
       omega (arith, pre .0, pre .1 .1 .1 .0),
       (
         good,
-        reads-within productions17 _ tokens [] (names-fixed [] tokens good []) (read-type
+        reads-within productions _ tokens [] (names-fixed [] tokens good []) (read-type
             .ensures [] []),
       ),
     )
@@ -105,7 +105,7 @@ take-requires-2 t c κs =
     let types = c .before .before .types in
     let tokens = args .tokens .now in
     let good = pre .1 .0 in
-    within-small tokens (good .few) (omega arith) (reads-within productions17 _ tokens [] (names-fixed [] tokens good []) (types .ensures
+    within-small tokens (good .few) (omega arith) (reads-within productions _ tokens [] (names-fixed [] tokens good []) (types .ensures
     [] []))
 
 close-row-requires : (t : ℕ) → lts.Need-close-row-requires (cs t) (given.parenthesized-at t) parenthesized.Post
@@ -123,7 +123,7 @@ close-row-requires t c κs =
     let take2 = c .before .take2 in
     let tokens = args .tokens .now in
     let good = pre .1 .0 in
-    closing productions17 _ tokens [] (names-fixed [] tokens good []) good (pre .1 .1 .0)
+    closing productions _ tokens [] (names-fixed [] tokens good []) good (pre .1 .1 .0)
     (function-type [] tokens good [] (pre .1 .1 .1 .1) (pre .1 .1 .0) (level-below (pre .1 .1 .1 .0)) (open-row .ensures)
     (sym (next-is .ensures) ∙ if1 .taken) (take .ensures) (read-type .ensures [] []) (types .ensures [] []) (take2 .ensures))
 
@@ -153,7 +153,7 @@ returns t c =
     λ source e.
     let tokens = args .tokens .now in
     let good = pre .1 .0 in
-    closed-by productions17 _ tokens e (names-fixed source tokens good e)
+    closed-by productions _ tokens e (names-fixed source tokens good e)
     (function-type source tokens good e (pre .1 .1 .1 .1) (pre .1 .1 .0) (level-below (pre .1 .1 .1 .0)) (open-row .ensures)
     (sym (next-is .ensures) ∙ if1 .taken) (take .ensures) (read-type .ensures source e) (types .ensures source e) (take2 .ensures))
     (omega arith) (close-row .ensures .0) (close-row .ensures .1)
@@ -193,7 +193,7 @@ take-requires-4 t c κs =
     let pre = c .before .before .before .before .before .before .before .before .pre in
     let tokens = args .tokens .now in
     let good = pre .1 .0 in
-    within-small tokens (good .few) (omega arith) (reads-within productions17 _ tokens [] (names-fixed [] tokens good []) (c .more-words
+    within-small tokens (good .few) (omega arith) (reads-within productions _ tokens [] (names-fixed [] tokens good []) (c .more-words
     .ensures 0 [] [] []))
 
 close-row-requires-2 : (t : ℕ) → lts.Need-close-row-requires-2 (cs t) (given.parenthesized-at t) parenthesized.Post
@@ -209,7 +209,7 @@ close-row-requires-2 t c κs =
     let take4 = c .before .take4 in
     let tokens = args .tokens .now in
     let good = pre .1 .0 in
-    closing productions17 _ tokens [] (names-fixed [] tokens good []) good (pre .1 .1 .0)
+    closing productions _ tokens [] (names-fixed [] tokens good []) good (pre .1 .1 .0)
     (instance [] tokens good [] (pre .1 .1 .1 .1) (pre .1 .1 .0) (level-below (pre .1 .1 .1 .0)) (open-row .ensures)
     (sym (next-is .ensures) ∙ if1 .left) (take3 .ensures) (take-word .ensures) (more-words .ensures (args .left - 1) [] [] []) (take4
     .ensures))
@@ -234,7 +234,7 @@ returns-2 t c =
     λ source e.
     let tokens = args .tokens .now in
     let good = pre .1 .0 in
-    closed-by productions17 _ tokens e (names-fixed source tokens good e)
+    closed-by productions _ tokens e (names-fixed source tokens good e)
     (instance source tokens good e (pre .1 .1 .1 .1) (pre .1 .1 .0) (level-below (pre .1 .1 .1 .0)) (open-row .ensures)
     (sym (next-is .ensures) ∙ if1 .left) (take3 .ensures) (take-word .ensures) (more-words .ensures (args .left - 1) (args .rows .now)
     source e) (take4 .ensures))

@@ -6,7 +6,7 @@ use lib.ListN.{length, replicate}
 use Rattle.lexer.specs.Table.{tokenRoom, rowsOf}
 use Rattle.grammar.specs.Grammars.{part, row, Names}
 use Rattle.grammar.specs.Nonterminals.{type}
-use Rattle.grammar.specs.Nurl.{productions17}
+use Rattle.grammar.specs.Nurl.{productions}
 use Rattle.grammar.specs.Languages.{language17}
 use Rattle.grammar.specs.Sources.{viewOf}
 use Rattle.parser.proofs.Laws.After.{After, after-within, within-small, within-wider}
@@ -35,7 +35,7 @@ cs t = (
 abbrev Inv-loop : lts.InvT-loop
 Inv-loop tokens rows₀ from left count kind step₀ done₀ rows step done =
     (done ≤ count) × (length rows ≡ length rows₀) × ((source : List ℕ) (e : Names) →
-    After productions17 (viewOf language17 source (rowsOf tokens)) (tokenRoom tokens) e left (left - 1) (row kind) 1 0 (part type ∷ [])
+    After productions (viewOf language17 source (rowsOf tokens)) (tokenRoom tokens) e left (left - 1) (row kind) 1 0 (part type ∷ [])
     (replicate (count - done) (part type)) from rows₀ step rows)
 
 abbrev μ-loop : lts.MeasureT-loop
@@ -69,7 +69,7 @@ read-type-requires t c κs =
     let loop = c .before .before .loop in
     let tokens = args .tokens .now in
     let good = pre .1 .0 in
-    let reached = after-within productions17 _ tokens [] (names-fixed [] tokens good []) (loop .inv .2 [] []) in
+    let reached = after-within productions _ tokens [] (names-fixed [] tokens good []) (loop .inv .2 [] []) in
     (omega (arith, pre .0, pre .1 .1 .1 .0), (good, within-wider tokens reached (omega arith)))
 
 add-done : (t : ℕ) → lts.Need-add-done (cs t) (given.type-operator-at t) type-operator.Post Inv-loop μ-loop
@@ -95,7 +95,7 @@ loop-again t c =
       omega (arith, loop-test .taken),
       read-type .kept .1 .0 ∙ loop .inv .1,
       λ source e.
-          operand productions17 _ tokens e (names-fixed source tokens good e) _ _ (loop-test .taken) (loop .inv .2 source e)
+          operand productions _ tokens e (names-fixed source tokens good e) _ _ (loop-test .taken) (loop .inv .2 source e)
           (read-type .ensures source e),
     )
 
@@ -106,7 +106,7 @@ close-row-requires t c κs =
     let loop = c .before .before .loop in
     let tokens = args .tokens .now in
     let good = pre .1 .0 in
-    closing productions17 _ tokens [] (names-fixed [] tokens good []) good (pre .1 .1 .0) (loop .inv .2 [] [])
+    closing productions _ tokens [] (names-fixed [] tokens good []) good (pre .1 .1 .0) (loop .inv .2 [] [])
 
 same-length : (t : ℕ) → lts.Need-same-length (cs t) (given.type-operator-at t) type-operator.Post Inv-loop μ-loop
 same-length t c =
@@ -125,7 +125,7 @@ returns t c =
     let tokens = args .tokens .now in
     let good = pre .1 .0 in
     let all : args .count - loop .done ≡ 0 = omega (arith, loop-test .left) in
-    closed-by productions17 _ tokens e (names-fixed source tokens good e) (rw all at (loop .inv .2 source e)) (omega arith)
+    closed-by productions _ tokens e (names-fixed source tokens good e) (rw all at (loop .inv .2 source e)) (omega arith)
     (close-row .ensures .0) (close-row .ensures .1)
 
 pub met : {M : Type 1} (t : ℕ) → lts.Closed (cs t) (given.type-operator-at t) type-operator.Post M

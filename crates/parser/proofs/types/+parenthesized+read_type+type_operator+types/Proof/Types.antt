@@ -5,7 +5,7 @@ use lib.ListN.{length}
 use Rattle.lexer.specs.Table.{tokenRoom, rowsOf}
 use Rattle.grammar.specs.Grammars.{part, noRow, Names}
 use Rattle.grammar.specs.Nonterminals.{types as typeList, type}
-use Rattle.grammar.specs.Nurl.{productions17}
+use Rattle.grammar.specs.Nurl.{productions}
 use Rattle.grammar.specs.Languages.{language17}
 use Rattle.grammar.specs.Sources.{viewOf}
 use Rattle.parser.proofs.Laws.After.{After, start, after-within, within-wider}
@@ -28,7 +28,7 @@ cs t = (begins-type-reads.Asked, begins-type-reads.Learnt, given.read-type-below
 abbrev Inv-loop : lts.InvT-loop
 Inv-loop tokens rows₀ left step₀ rows step =
     (length rows ≡ length rows₀) × ((source : List ℕ) (e : Names) →
-    After productions17 (viewOf language17 source (rowsOf tokens)) (tokenRoom tokens) e left left noRow 0 0 (part typeList ∷ [])
+    After productions (viewOf language17 source (rowsOf tokens)) (tokenRoom tokens) e left left noRow 0 0 (part typeList ∷ [])
     (part typeList ∷ []) step₀ rows₀ step rows)
 
 abbrev μ-loop : lts.MeasureT-loop
@@ -37,7 +37,7 @@ abbrev μ-loop : lts.MeasureT-loop
 loop-holds : (t : ℕ) → lts.Need-loop-holds (cs t) (given.types-at t) types.Post Inv-loop μ-loop
 loop-holds t c =
     let pre = c .before .before .pre in
-    (refl, λ source e. start productions17 _ _ e (names-fixed source _ (pre .1 .0) e) (pre .1 .1))
+    (refl, λ source e. start productions _ _ e (names-fixed source _ (pre .1 .0) e) (pre .1 .1))
 
 begins-type-requires : (t : ℕ) → lts.Need-begins-type-requires (cs t) (given.types-at t) types.Post Inv-loop μ-loop
 begins-type-requires t c κs = search needs
@@ -49,7 +49,7 @@ read-type-requires t c κs =
     let loop = c .before .before .before .loop in
     let tokens = args .tokens .now in
     let good = pre .1 .0 in
-    let reached = after-within productions17 _ tokens [] (names-fixed [] tokens good []) (loop .inv .1 [] []) in
+    let reached = after-within productions _ tokens [] (names-fixed [] tokens good []) (loop .inv .1 [] []) in
     (omega (arith, pre .0), (good, within-wider tokens reached (omega arith)))
 
 loop-less : (t : ℕ) → lts.Need-loop-less (cs t) (given.types-at t) types.Post Inv-loop μ-loop
