@@ -28,8 +28,7 @@ use Rattle.grammar.specs.Answers.{answered}
 use Rattle.grammar.specs.Demands.{Admitted, Readable, Room, Refusal, too-long, bad-names, bad-byte, open-string, few-token-rows}
 use Rattle.grammar.specs.Demands.{no-program, too-deep, few-tree-rows, Acceptance, Demands}
 use Rattle.grammar.specs.declared.Answer.the-variants.{Accepted, Refused}
-use Rattle.grammar.proofs.Laws.Sources.{Fit, ReadAs, read-as, read-sound, read-complete, read-same, read-stuck, read-deep}
-use Rattle.grammar.proofs.Laws.Sources.{read-unspent}
+use Rattle.grammar.proofs.Laws.Sources.{Fit, ReadAs, read-as, theorems}
 
 -- what a verdict says, in the words of the demands
 module _ (l : Language) (source names : List ℕ) (limit : ℕ) (tokens rows : List ℕ) where
@@ -116,10 +115,10 @@ module _ (l : Language) (source names : List ℕ) (limit : ℕ) (tokens rows : L
         → (o : Outcome) → readTokens l limit source names ts ≡ o → Found (judged (treeRoom rows) ts o)
     unfolding judged
     found-judged ts r room (ok j rs said) h =
-        found-rows ts rs r room (read-sound l fit source names ts (r .scans) limit j said rs h .1) (leb (length rs) (treeRoom rows)) refl
+        found-rows ts rs r room (theorems l fit source names ts (r .scans) .sound limit j said rs h .1) (leb (length rs) (treeRoom rows)) refl
     found-judged ts r room (stuck i) h = found-late (no-program r room h)
     found-judged ts r room (deep i) h = found-late (too-deep r room h)
-    found-judged ts r room spent h = absurd (read-unspent l fit source names ts (r .scans) limit h)
+    found-judged ts r room spent h = absurd (theorems l fit source names ts (r .scans) .unspent limit h)
 
     -- No. 3 to 5
     found-tokens : (ts : List Token) → Readable l source names ts → (t : Bool) → leb (length ts) (tokenRoom tokens) ≡ t
@@ -166,7 +165,7 @@ module _ (l : Language) (source names : List ℕ) (limit : ℕ) (tokens rows : L
         → verdict l limit source names (tokenRoom tokens) (treeRoom rows)
         ≡ pick (leb (length rs) (treeRoom rows)) (accept ts rs) (late 8 (length rs) ts)
     unfolding judged
-    verdict-derived ts rs r room d = cases (read-complete l fit source names ts (r .scans) limit rs d)
+    verdict-derived ts rs r room d = cases (theorems l fit source names ts (r .scans) .complete limit rs d)
       where
         cases : ReadAs (readTokens l limit source names ts) (length ts) rs → verdict l limit source names (tokenRoom tokens) (treeRoom rows)
             ≡ pick (leb (length rs) (treeRoom rows)) (accept ts rs) (late 8 (length rs) ts)
@@ -221,7 +220,7 @@ module _ (l : Language) (source names : List ℕ) (limit : ℕ) (tokens rows : L
       room = record {
         for-tokens = room;
         for-rows = λ (others : List Row) (e : DerivationOf l source names ts limit others).
-            let same = read-same l fit source names ts (r .scans) limit limit others rs e d in
+            let same = theorems l fit source names ts (r .scans) .unique limit limit others rs e d in
             rw same space;
       };
       token-count = cc;
@@ -239,7 +238,7 @@ module _ (l : Language) (source names : List ℕ) (limit : ℕ) (tokens rows : L
     only-by t n ta ra a ts k m rs d =
         let tokens-same = readable-same (a .token-list) ts (a .readable) k in
         let derived = subst (λ (us : List Token). DerivationOf l source names us limit (a .row-list)) tokens-same (a .derived) in
-        let rows-same = read-same l fit source names ts (k .scans) limit m (a .row-list) rs derived d in
+        let rows-same = theorems l fit source names ts (k .scans) .unique limit m (a .row-list) rs derived d in
         let within = subst (λ (others : List Row). DerivationOf l source names ts limit others) rows-same derived in
         accept-result ts rs k (subst (λ (us : List Token). length us ≤ tokenRoom tokens) tokens-same (a .room .for-tokens))
         (subst (λ (others : List Row). length others ≤ treeRoom rows) rows-same (a .room .for-rows (a .row-list) (a .derived))) within
@@ -262,10 +261,10 @@ module _ (l : Language) (source names : List ℕ) (limit : ℕ) (tokens rows : L
         only = λ t n h. only-by t n _ _ (accepted-by (verdict l limit source names (tokenRoom tokens) (treeRoom rows)) found t n h);
         no-derivation = λ place h ts k n rs.
             let refusal = refused-by (verdict l limit source names (tokenRoom tokens) (treeRoom rows)) found 6 place h in
-            read-stuck l fit source names ts (k .scans) limit place n rs (refusal-stops 6 place _ _ refusal ts k .six refl);
+            theorems l fit source names ts (k .scans) .stuck-none limit place n rs (refusal-stops 6 place _ _ refusal ts k .six refl);
         none-within = λ place h ts k rs.
             let refusal = refused-by (verdict l limit source names (tokenRoom tokens) (treeRoom rows)) found 7 place h in
-            read-deep l fit source names ts (k .scans) limit place rs (refusal-stops 7 place _ _ refusal ts k .seven refl);
+            theorems l fit source names ts (k .scans) .deep-none limit place rs (refusal-stops 7 place _ _ refusal ts k .seven refl);
       };
     }
 
@@ -281,5 +280,5 @@ module _ (l : Language) (source names : List ℕ) (limit : ℕ) (tokens rows : L
             d .demand3 .accepts ts rs k (record {
               for-tokens = room;
               for-rows = λ (others : List Row) (o : DerivationOf l source names ts limit others).
-                  rw (read-same l fit source names ts (k .scans) limit limit others rs o e) space;
+                  rw (theorems l fit source names ts (k .scans) .unique limit limit others rs o e) space;
             }) e

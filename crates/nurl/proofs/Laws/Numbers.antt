@@ -15,7 +15,7 @@ use Rattle.grammar.specs.Answers.{levelLimit, Result}
 use Rattle.grammar.specs.Demands.{Readable, Refusal, too-long, bad-names, bad-byte, open-string, few-token-rows, no-program, too-deep}
 use Rattle.grammar.specs.Demands.{few-tree-rows, Acceptance, Demands}
 use Rattle.grammar.specs.declared.Answer.the-variants.{Accepted, Refused}
-use Rattle.grammar.proofs.Laws.Nurl17.{stuck-at17, deep-at17, few17}
+use Rattle.grammar.proofs.Laws.Nurl17.{theorems17}
 
 module _ (source names tokens rows : List ℕ) where
   -- there are no more tokens than a source can have
@@ -34,19 +34,19 @@ module _ (source names tokens rows : List ℕ) where
       omega (arith, a .within)
   place-small number place ta ra (few-token-rows {ts = ts} r over) = omega (arith, few ts r)
   place-small number place ta ra (no-program {ts = ts} r room h) =
-      let at = stuck-at17 source names ts (r .scans) levelLimit place h in
+      let at = theorems17 source names ts (r .scans) .stuck-at levelLimit place h in
       omega (arith, few ts r)
   place-small number place ta ra (too-deep {ts = ts} r room h) =
-      let at = deep-at17 source names ts (r .scans) levelLimit place (omega arith) h in
+      let at = theorems17 source names ts (r .scans) .deep-at levelLimit place (omega arith) h in
       omega (arith, few ts r)
   place-small number place ta ra (few-tree-rows {ts = ts} {rs = rs} r room d over) =
-      let rows-few = few17 source names ts (r .scans) levelLimit rs d in
+      let rows-few = theorems17 source names ts (r .scans) .few levelLimit rs d in
       omega (arith, few ts r)
 
   counts-small : (t n : ℕ) (ta ra : List ℕ) → Acceptance language17 source names levelLimit tokens rows t n ta ra → (t < 2 ^ 32) × (n < 2 ^ 32)
   counts-small t n ta ra a =
       let ts = a .token-list in
-      let rows-few = few17 source names ts (a .readable .scans) levelLimit (a .row-list) (a .derived) in
+      let rows-few = theorems17 source names ts (a .readable .scans) .few levelLimit (a .row-list) (a .derived) in
       let tokens-few = few ts (a .readable) in
       let token-count = a .token-count in
       let row-count = a .row-count in

@@ -30,8 +30,7 @@ use Rattle.grammar.specs.Sources.{viewOf, namesOf, readTokens}
 use Rattle.grammar.specs.TreeTable.{treeRoom, cleared}
 use Rattle.grammar.specs.Answers.{levelLimit, judged, result}
 use Rattle.grammar.specs.declared.Answer.the-variants.{Accepted, Refused}
-use Rattle.grammar.proofs.Laws.Sources.{read-from}
-use Rattle.grammar.proofs.Laws.Nurl17.{fit17, sound17}
+use Rattle.grammar.proofs.Laws.Nurl17.{theorems17}
 use Rattle.parser.specs.Trees.{put}
 use Rattle.parser.specs.Steps.{Tokens}
 use Rattle.parser.specs.Readings.{Gives, Reads, read, refused6, refused7, passed, ReadsWhole}
@@ -136,7 +135,7 @@ module _ (source names tokens : List ℕ) (short : length source ≤ sourceLimit
     -- what the reader gives is the reading of the tokens
     reads : (o : Outcome) → Gives productions v e levelLimit (whole program) 0 o → (o ≡ spent → ⊥)
         → readTokens language17 levelLimit source names (rowsOf tokens) ≡ o
-    reads o g some = read-from language17 fit17 source names (rowsOf tokens) scans (0 + g .fuel) levelLimit o (g .reads 0) some
+    reads o g some = theorems17 source names (rowsOf tokens) scans .read-from (0 + g .fuel) levelLimit o (g .reads 0) some
 
     -- rows that were put, with room for them and without
     accepted-by : (count needed : ℕ) (rs : List Row) → readTokens language17 levelLimit source names (rowsOf tokens) ≡ ok count rs 0
@@ -144,7 +143,7 @@ module _ (source names tokens : List ℕ) (short : length source ≤ sourceLimit
         → (Accepted count needed ≡ treeResult source names tokens rows .answer) × (after ≡ treeResult source names tokens rows .rows)
     unfolding judged result
     accepted-by count needed rs said enough there room =
-        let all = sound17 source names (rowsOf tokens) scans levelLimit count 0 rs said .0 in
+        let all = theorems17 source names (rowsOf tokens) scans .sound levelLimit count 0 rs said .0 in
         let fits : length rs ≤ treeRoom rows = omega arith in
         rw (said, le-leb (length rs) (treeRoom rows) fits, all, enough, there, put-placed rs rows fits) (refl, refl)
 

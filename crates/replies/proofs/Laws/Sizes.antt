@@ -23,7 +23,7 @@ use Rattle.grammar.specs.Demands.{Demands}
 use Rattle.grammar.specs.declared.Answer.{Answer}
 use Rattle.grammar.specs.declared.Answer.the-variants.{Accepted, Refused}
 use Rattle.grammar.proofs.Laws.RowKinds.{KindsTo, none, each}
-use Rattle.grammar.proofs.Laws.Nurl17.{forest17, kinds17, answer17-meets}
+use Rattle.grammar.proofs.Laws.Nurl17.{theorems17, answer17-meets}
 use Rattle.parser.proofs.Laws.Trees.{length-treeRows}
 use Rattle.nurl.specs.Texts.{decimal, number, rowLine, rowLines, answerText, written, bytesWritten, overwritten}
 use Rattle.nurl.proofs.Laws.Texts.{overwritten-length, digits-of-ten, digits-of-more}
@@ -170,9 +170,9 @@ module _ (source names tokens rows : List ℕ) where
         let few-rows = a .room .for-rows rs (a .derived) in
         let token-count = a .token-count in
         let row-count = a .row-count in
-        let trees = forest17 source names ts (a .readable .scans) levelLimit rs (a .derived) in
+        let trees = theorems17 source names ts (a .readable .scans) .forest levelLimit rs (a .derived) in
         let places = forest-places 5000 (omega arith) (omega arith) trees in
-        let kinds = kinds17 source names ts (a .readable .scans) levelLimit rs (a .derived) in
+        let kinds = theorems17 source names ts (a .readable .scans) .kinds levelLimit rs (a .derived) in
         let size = placed-length rs rows few-rows in
         rw (a .row-table)
         (text-accepted t n (placed rs rows) (omega arith) (omega arith) (omega arith) (small-placed rs rows (small-rows rs kinds places) zeros))
