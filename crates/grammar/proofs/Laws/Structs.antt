@@ -1,5 +1,6 @@
--- The conditions on `opensStruct` in the table of NURL 1.7 lose no derivation: where the other symbols of a struct derive anything,
--- the answer is yes, and where those of a constant do, it is no. Assumes nothing.
+-- The conditions on `opensStruct` in the table of NURL lose no derivation: where the other symbols of a struct derive anything, the
+-- answer is yes, and where those of a constant do, it is no. It holds in any edition with these productions whose questions are
+-- as `Opens` says; 1.7 is one (`opens17`). Assumes nothing.
 use Prim.Native.Nat.{ℕ, zero, suc, _≤_}
 use mathlib.Core.Path.{_≡_, refl, _∙_, sym, ap}
 use mathlib.Core.Bool.{Bool, true, false, false≢true}
@@ -21,7 +22,7 @@ use Rattle.grammar.specs.Nonterminals.{mutable, nameList, type, structPa
 use Rattle.grammar.specs.Classes.{typeName, name, typeWord}
 use Rattle.grammar.specs.Questions.{oneOf, fits, fitsOne, answerTo}
 use Rattle.grammar.specs.Nurl.{one, rule, opensStruct, opensStructNames, questions17, productions}
-use Rattle.grammar.specs.Languages.{language17, noItem, classOf, view}
+use Rattle.grammar.specs.Languages.{Language, language17, noItem, classOf, view}
 use Rattle.grammar.proofs.Laws.Views.{Kinds, kinds-none, kinds-more}
 use Rattle.grammar.proofs.Laws.Patterns.{among-one, fits-at}
 
@@ -101,12 +102,23 @@ lists17 : those structParameters (λ ss. true) productions ≡ lists
 unfolding and productions those
 lists17 = refl
 
-module _ (ts : List Item) where
-  abbrev kindAt : ℕ → ℕ
-  kindAt i = getD ts i noItem .kind
+abbrev kindAt : List Item → ℕ → ℕ
+kindAt ts i = getD ts i noItem .kind
 
+-- what is asked of an edition
+pub record Opens (l : Language) : Type 0 where
+  -- `{` is one of the opening kinds, and IDENT is none
+  pub brace : among (l .opening) leftBrace ≡ true
+  pub apart : among (l .opening) ident ≡ false
+  -- a struct's name stands before one of them
+  pub struct : (ts : List Item) (i : ℕ)
+      → view l ts .holds opensStruct i ≡ and (among (ident ∷ []) (kindAt ts i)) (and (among (l .opening) (kindAt ts (suc i))) true)
+  -- a struct's list begins with one
+  pub list : (ts : List Item) (i : ℕ) → view l ts .holds opensStructNames i ≡ true → among (l .opening) (kindAt ts i) ≡ true
+
+module _ (l : Language) (opens : Opens l) (ts : List Item) where
   at-name : {g : List Production} {e : Names} {n i j said : ℕ} {ss : List Symbol} {rows : List Row}
-      → Derives g (view language17 ts) e n ss i j rows said → kindAt i ≡ ident → atName ss ≡ true
+      → Derives g (view l ts) e n ss i j rows said → kindAt ts i ≡ ident → atName ss ≡ true
   unfolding atName view
   at-name end k = refl
   at-name (taken {e = e} {i = i} {cs = cs} h d) k =
@@ -114,47 +126,51 @@ module _ (ts : List Item) where
   at-name (held h d) k = refl
   at-name (entered has left level inner rest) k = refl
 
-  -- what the questions ask
-  names-open : (i : ℕ) → view language17 ts .holds opensStructNames i ≡ true → kindAt i ≡ leftBracket
-  unfolding view answerTo questions17 fitsOne among or
-  names-open i h =
-      among-one leftBracket (kindAt i) (and-left _ _ (sym (fits-at (leftBracket ∷ []) _ ts i refl) ∙ sym (or-false _) ∙ h))
-
-  struct-opens : (i : ℕ)
-      → view language17 ts .holds opensStruct i ≡ and (among (ident ∷ []) (kindAt i)) (and (among opening17 (kindAt (suc i))) true)
-  unfolding view answerTo questions17 fitsOne fits among or
-  struct-opens i =
-      or-false _ ∙ fits-at (ident ∷ []) (oneOf opening17 ∷ []) ts i refl ∙ ap (and _) (fits-at opening17 [] ts (suc i) refl)
-
-  -- a struct's list before a `{` begin with `[` or are nothing
+  -- a struct's list before a `{` begins with an opening kind or is nothing
   list-opens : {g : List Production} {e : Names} {n i j said : ℕ} {p : Production} {rows : List Row} → Has lists p
-      → Derives g (view language17 ts) e n (p .right) i j rows said → kindAt j ≡ leftBrace → among opening17 (kindAt i) ≡ true
-  unfolding view among or met asked agrees
-  list-opens here (held {i = i} h d) brace = rw (names-open i h)
-  list-opens (there here) (held h end) brace = rw brace
+      → Derives g (view l ts) e n (p .right) i j rows said → kindAt ts j ≡ leftBrace → among (l .opening) (kindAt ts i) ≡ true
+  unfolding met asked agrees
+  list-opens here (held {i = i} h d) brace = opens .list ts i h
+  list-opens (there here) (held h end) brace = rw brace (opens .brace)
 
   -- a struct
   pub struct-asked : Kinds ts → {e : Names} {n i j said : ℕ} {ss : List Symbol} {rows : List Row}
-      → Derives productions (view language17 ts) e n (token name ∷ part structParameters ∷ one leftBrace ∷ ss) i j rows said
-      → view language17 ts .holds opensStruct i ≡ true
+      → Derives productions (view l ts) e n (token name ∷ part structParameters ∷ one leftBrace ∷ ss) i j rows said
+      → view l ts .holds opensStruct i ≡ true
   unfolding view and among or
   struct-asked kinds (taken {e = e} {i = i} h (entered {j = j} has left level inner (taken b d))) =
       let list = rw lists17 at (has-those structParameters (λ ss. true) has left refl) in
-      let opens = list-opens list inner (brace-kind e (getD ts j noItem) b) in
-      rw (struct-opens i, name-kind e (getD ts i noItem) (kind-below kinds i) h, opens)
+      let opening = list-opens list inner (brace-kind e (getD ts j noItem) b) in
+      rw (opens .struct ts i, name-kind e (getD ts i noItem) (kind-below kinds i) h, opening)
 
   -- a constant: if its first token is an IDENT, so is the second
   pub constant-asked : Kinds ts → {e : Names} {n i j said : ℕ} {ss : List Symbol} {rows : List Row}
-      → Derives productions (view language17 ts) e n (part mutable ∷ part type ∷ token name ∷ ss) i j rows said
-      → view language17 ts .holds opensStruct i ≡ false
+      → Derives productions (view l ts) e n (part mutable ∷ part type ∷ token name ∷ ss) i j rows said
+      → view l ts .holds opensStruct i ≡ false
   unfolding view and among or
   constant-asked kinds (entered {e = e} {i = i} m left level first (entered {j = k} t also deep second (taken h d))) =
-      struct-opens i ∙ cases (among (ident ∷ []) (kindAt i)) refl
+      opens .struct ts i ∙ cases (among (ident ∷ []) (kindAt ts i)) refl
     where
-      cases : (b : Bool) → among (ident ∷ []) (kindAt i) ≡ b → and b (and (among opening17 (kindAt (suc i))) true) ≡ false
+      cases : (b : Bool) → among (ident ∷ []) (kindAt ts i) ≡ b → and b (and (among (l .opening) (kindAt ts (suc i))) true) ≡ false
       cases true a =
-          let front = among-one ident (kindAt i) a in
+          let front = among-one ident (kindAt ts i) a in
           let none = none-taken (rw mutable17 at (has-those mutable atName m left (at-name first front))) first in
           let single = one-taken (rw type17 at (has-those type atName t also (at-name second (rw none front)))) second in
-          rw (← none, ← single, name-kind e (getD ts k noItem) (kind-below kinds k) h)
+          rw (← none, ← single, name-kind e (getD ts k noItem) (kind-below kinds k) h, opens .apart)
       cases false a = refl
+
+-- grammar 1.7
+bracket17 : (ts : List Item) (i : ℕ) → view language17 ts .holds opensStructNames i ≡ true → kindAt ts i ≡ leftBracket
+unfolding view answerTo questions17 fitsOne among or
+bracket17 ts i h =
+    among-one leftBracket (kindAt ts i) (and-left _ _ (sym (fits-at (leftBracket ∷ []) _ ts i refl) ∙ sym (or-false _) ∙ h))
+
+struct17 : (ts : List Item) (i : ℕ)
+    → view language17 ts .holds opensStruct i ≡ and (among (ident ∷ []) (kindAt ts i)) (and (among opening17 (kindAt ts (suc i))) true)
+unfolding view answerTo questions17 fitsOne fits among or
+struct17 ts i =
+    or-false _ ∙ fits-at (ident ∷ []) (oneOf opening17 ∷ []) ts i refl ∙ ap (and _) (fits-at opening17 [] ts (suc i) refl)
+
+pub opens17 : Opens language17
+unfolding among or
+opens17 = record { brace = refl; apart = refl; struct = struct17; list = λ ts i h. rw (bracket17 ts i h) }
