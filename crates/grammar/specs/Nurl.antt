@@ -1,7 +1,8 @@
 -- The table of NURL: the productions of document 009 under rules 1 to 11 of document 01, one a line. They are those of both editions,
 -- which differ in their questions. Above each group stands 009's production, and beside each condition the number of 01's rule, but
--- for `opensStruct`, which is explained where the questions are. A repetition `x*` or an option `x?` of 009 is a nonterminal with two productions; productions that begin alike
--- share a nonterminal that says the row's kind. docs/LANGUAGE.md has the same productions and rules in words.
+-- for `opensStruct`, which is explained where the questions are. A repetition `x*` or an option `x?` of 009 is a nonterminal with two
+-- productions; productions that begin alike share a nonterminal that says the row's kind. docs/LANGUAGE.md has the same productions
+-- and rules in words.
 use Prim.Native.Nat.{ℕ}
 use mathlib.Core.List.{List, [], _∷_}
 use Rattle.lexer.specs.Text.{bytes}
@@ -141,7 +142,8 @@ productions =
     rule parameter (row parameterRow) (part type ∷ token name ∷ []) ∷
     -- struct_decl, enum_decl and const_decl begin with ':'
     rule declaration rowOf (one colon ∷ part definition ∷ []) ∷
-    -- struct_decl = ':' IDENT type_params? '{' field* '}'; by rule 11 there is no `~` in it
+    -- struct_decl = ':' IDENT type_params? '{' field* '}'; by rule 11 there is no `~` in it. Its list has a question of its own, since the
+    -- editions differ in it
     rule definition (says structRow) (when (query opensStruct) ∷ token name ∷ part structParameters ∷ one leftBrace ∷ part fields ∷ one rightBrace ∷ []) ∷
     rule structParameters noRow (when (query opensStructNames) {- rule 2 -} ∷ part nameList ∷ []) ∷
     rule structParameters noRow (unless (query opensStructNames) {- rule 2 -} ∷ []) ∷
