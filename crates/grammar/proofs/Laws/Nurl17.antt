@@ -4,7 +4,7 @@ use mathlib.Core.Path.{_≡_}
 use mathlib.Core.List.{List}
 use lib.ListN.{length}
 use Rattle.lexer.specs.Editions.{edition17}
-use Rattle.lexer.specs.Tokens.{Token, clean, scan}
+use Rattle.lexer.specs.Tokens.{Token, cleanly, scan}
 use Rattle.lexer.proofs.Laws.Counts.{spelled17}
 use Rattle.grammar.specs.RowKinds.{programRow, namedTypeRow}
 use Rattle.grammar.specs.Rows.{Row}
@@ -26,7 +26,7 @@ use Rattle.grammar.proofs.Laws.Answers.{answered-demands}
 unfoldable pub fit17 : Fit language17
 fit17 = record { marks = spelled17; hints = hints17; tests = passes17; steady = steady17 }
 
-module _ (source names : List ℕ) (ts : List Token) (scans : scan edition17 source ≡ clean ts) where
+module _ (source names : List ℕ) (ts : List Token) (scans : scan edition17 source ≡ cleanly ts) where
   -- 1. sound
   pub sound17 : (n j said : ℕ) (rs : List Row) → readTokens language17 n source names ts ≡ ok j rs said
       → (j ≡ length ts) × (DerivationOf language17 source names ts n rs)

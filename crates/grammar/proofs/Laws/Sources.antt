@@ -4,7 +4,7 @@ use mathlib.Core.Path.{_≡_}
 use mathlib.Core.Bool.{true}
 use mathlib.Core.List.{List}
 use lib.ListN.{length}
-use Rattle.lexer.specs.Tokens.{Token, clean, scan}
+use Rattle.lexer.specs.Tokens.{Token, cleanly, scan}
 use Rattle.lexer.proofs.Laws.Sizes.{spelled}
 use Rattle.lexer.proofs.Laws.Places.{tokens-placed}
 use Rattle.typenames.specs.TypeNames.{Item, items}
@@ -37,7 +37,7 @@ pub data ReadAs (o : Outcome) (j : ℕ) (rs : List Row) : Type 0 where
   read-as : {said : ℕ} → o ≡ ok j rs said → ReadAs o j rs
 
 -- the tokens of a source under a list of names, in a language that is fit
-module _ (l : Language) (fit : Fit l) (source names : List ℕ) (ts : List Token) (scans : scan (l .lexical) source ≡ clean ts) where
+module _ (l : Language) (fit : Fit l) (source names : List ℕ) (ts : List Token) (scans : scan (l .lexical) source ≡ cleanly ts) where
   kinds : Kinds (items source ts)
   kinds = items-kinds (tokens-placed (l .lexical) (fit .marks) source ts scans)
 

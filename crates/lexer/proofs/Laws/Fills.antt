@@ -8,11 +8,11 @@ use lib.ListN.{length, take, drop, length-drop}
 use lib.Seq.{sets, length-take-le, take-all}
 use Rattle.lexer.specs.Editions.{edition17}
 use Rattle.lexer.specs.Lexemes.{lexeme}
-use Rattle.lexer.specs.Tokens.{Token, Ending, Scan, clean, cleanly, withToken, scan}
+use Rattle.lexer.specs.Tokens.{Token, Scan, clean, cleanly, withToken, scan}
 use Rattle.lexer.specs.Table.{tokenWidth, tokenRow, filled}
 use Rattle.lexer.specs.declared.Lexeme.{Lexeme}
 use Rattle.lexer.specs.declared.Lexeme.the-variants.{End, Skipped, BadByte, OpenString}
-use Rattle.lexer.proofs.Laws.Scans.{scanFrom, scan-from-start, scan-end, scan-skip, scan-token, scan-bad, scan-open}
+use Rattle.lexer.proofs.Laws.Scans.{cleanly-found, scanFrom, scan-from-start, scan-end, scan-skip, scan-token, scan-bad, scan-open}
 use Rattle.lexer.proofs.Laws.Counts.{spelled17}
 use Rattle.lexer.proofs.Laws.Rows.{filled-none, filled-length, filled-more}
 
@@ -40,7 +40,7 @@ first-of : (t : Token) (x : Scan) (us : List Token) → withToken t x ≡ cleanl
 unfolding withToken
 first-of t x us e = record {
   rest = x .found;
-  then = ap (λ (end : Ending). record { found = x .found; ending = end }) (ap (λ (y : Scan). y .ending) e);
+  then = cleanly-found x (ap (λ (y : Scan). y .ending) e);
   whole = sym (ap (λ (y : Scan). y .found) e);
 }
 
@@ -53,8 +53,7 @@ pub record Filling (s table₀ table : List ℕ) (at row : ℕ) : Type 0 where
 module _ (s table₀ : List ℕ) where
   pub fill-start : scan edition17 s .ending ≡ clean → Filling s table₀ table₀ 0 0
   fill-start c =
-      let all : scan edition17 s ≡ cleanly (scan edition17 s .found) =
-      ap (λ (end : Ending). record { found = scan edition17 s .found; ending = end }) c in
+      let all = cleanly-found (scan edition17 s) c in
       record { left = scan-from-start edition17 s ∙ all; rows = omega arith; holds = sym (filled-none s table₀) }
 
   module _ (table : List ℕ) (at row : ℕ) (so-far : Filling s table₀ table at row) where

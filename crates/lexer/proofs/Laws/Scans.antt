@@ -1,6 +1,6 @@
 -- The token list of a source, lexeme by lexeme: what it is from a place on. Assumes nothing.
 use Prim.Native.Nat.{ℕ, zero, suc, _+_, _<_, _≤_}
-use mathlib.Core.Path.{_≡_, refl, _∙_, ap}
+use mathlib.Core.Path.{_≡_, refl, sym, _∙_, ap}
 use mathlib.Core.Bool.{true}
 use mathlib.Core.List.{List, [], _∷_}
 use native.Mathlib.Omega.{arith}
@@ -9,7 +9,7 @@ use lib.ListN.{length, drop, length-drop}
 use lib.Seq.{drop-drop}
 use Rattle.lexer.specs.Editions.{Edition}
 use Rattle.lexer.specs.Lexemes.{lexeme}
-use Rattle.lexer.specs.Tokens.{lexemeSize, follow, lexemesWithin, lexemes, Token, Scan, cleanly, faultAfter, withToken, located, scan}
+use Rattle.lexer.specs.Tokens.{lexemeSize, follow, lexemesWithin, lexemes, Token, Ending, clean, Scan, cleanly, faultAfter, withToken, located, scan}
 use Rattle.lexer.specs.declared.Lexeme.{Lexeme}
 use Rattle.lexer.specs.declared.Lexeme.the-variants.{End, Skipped, BadByte, OpenString}
 use Rattle.lexer.proofs.Laws.Sizes.{Proper, of-token, of-skip, spelled, proper}
@@ -45,6 +45,14 @@ module _ (e : Edition) (good : spelled (e .marks) ≡ true) where
       lexemes-enough (length s) (suc (length s)) s (omega arith) (omega arith)
       ∙ follow-same (lexeme e s) (proper e good s) _ _
       (λ (h : 0 < lexemeSize (lexeme e s)). lexemes-enough (length s) (length (drop (lexemeSize (lexeme e s)) s)) _ (omega arith) (omega arith))
+
+-- what ends clean is its tokens, cleanly
+pub cleanly-found : (x : Scan) → x .ending ≡ clean → x ≡ cleanly (x .found)
+cleanly-found x h = ap (λ (end : Ending). record { found = x .found; ending = end }) h
+
+-- the tokens of a scan are one list
+pub found-once : (x : Scan) (ts us : List Token) → x ≡ cleanly ts → x ≡ cleanly us → ts ≡ us
+found-once x ts us h k = sym (ap (λ (y : Scan). y .found) h) ∙ ap (λ (y : Scan). y .found) k
 
 -- what a source is from a place on
 unfoldable pub scanFrom : Edition → List ℕ → ℕ → Scan
