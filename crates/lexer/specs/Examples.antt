@@ -1,5 +1,5 @@
--- Examples of the papers about bytes and tokens, as one table: a source, its tokens up to its first fault, and how it ends. The claim that
--- `scan` gives what the table says, for each of its rows, is `examples-hold` in proofs/.
+-- Examples of the papers about bytes and tokens, as one table: a source, its tokens up to its first fault, and how it ends. The
+-- claim that `scan` gives what the table says, for each of its rows, is `examples-hold` in proofs/.
 use Prim.Native.Nat.{ℕ}
 use Prim.Native.String.{String}
 use mathlib.Core.List.{List, [], _∷_}

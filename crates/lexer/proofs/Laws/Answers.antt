@@ -27,7 +27,7 @@ pub record Answered (e : Edition) (s table : List ℕ) (answer : Scanned) (after
 -- what a count tells of the source
 pub record Clean (e : Edition) (s : List ℕ) (n : ℕ) : Type 0 where
   pub short : length s ≤ sourceLimit
-  pub all : scan e s .ending ≡ clean
+  pub ends : scan e s .ending ≡ clean
   pub count : length (scan e s .found) ≡ n
 
 clean-ending : (m n : ℕ) (x : Ending) → endedWith m x ≡ Tokens n → (x ≡ clean) × (m ≡ n)
@@ -42,7 +42,7 @@ module _ (e : Edition) (s : List ℕ) where
   counted-by n true q h = let z : _≡_ {A = ℕ} 0 1 = cc in absurd (omega arith)
   counted-by n false q h =
       let c = clean-ending (length (scan e s .found)) n (scan e s .ending) h in
-      record { short = ltb-false _ _ q; all = c .0; count = c .1 }
+      record { short = ltb-false _ _ q; ends = c .0; count = c .1 }
 
   pub clean-count : (n : ℕ) → counted e s ≡ Tokens n → Clean e s n
   unfolding counted

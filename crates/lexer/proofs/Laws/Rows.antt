@@ -10,7 +10,7 @@ use Rattle.lexer.specs.Tokens.{Token}
 use Rattle.lexer.specs.Table.{tokenWidth, tokenRoom, tokenRow, tokenRows, filled, kept, rowsOf, noToken, rowAt}
 use Rattle.lexer.specs.Leaves.{rowNumbers, ownNumbers}
 
-pub row-length : (source : List ℕ) (t : Token) → length (tokenRow source t) ≡ tokenWidth
+row-length : (source : List ℕ) (t : Token) → length (tokenRow source t) ≡ tokenWidth
 unfolding tokenRow
 row-length source t = refl
 
