@@ -5,7 +5,7 @@ use mathlib.Core.List.{List, [], _∷_}
 use lib.Dec.{leb, ltb}
 use lib.ListN.{length}
 use Rattle.lexer.specs.Tests.{pick}
-use Rattle.lexer.specs.Tokens.{Token, Scan, clean, fault, scan}
+use Rattle.lexer.specs.Tokens.{Token, Ending, clean, fault, scan}
 use Rattle.lexer.specs.Table.{sourceLimit, tokenRoom, filled}
 use Rattle.typenames.specs.NameList.{checked}
 use Rattle.typenames.specs.declared.Checked.{Checked}
@@ -44,9 +44,9 @@ judged treeSpace ts (deep i) = late 7 i ts
 judged treeSpace ts spent = late 6 0 ts
 
 -- No. 3 to 5, of 3 and 4 the one met first
-unfoldable pub scannedTokens : Language → ℕ → List ℕ → List ℕ → ℕ → ℕ → Scan → Verdict
-scannedTokens l limit source names tokenSpace treeSpace (fault number place) = early number place
-scannedTokens l limit source names tokenSpace treeSpace (clean ts) =
+unfoldable pub scannedTokens : Language → ℕ → List ℕ → List ℕ → ℕ → ℕ → List Token → Ending → Verdict
+scannedTokens l limit source names tokenSpace treeSpace ts (fault number place) = early number place
+scannedTokens l limit source names tokenSpace treeSpace ts clean =
     let judgement = judged treeSpace ts (readTokens l limit source names ts) in
     pick (leb (length ts) tokenSpace) judgement (early 5 (length ts))
 
@@ -58,8 +58,9 @@ checkedNames (Checked.Refused number place) v = early number place
 -- No. 1 to 8, for tables with space for so many whole rows
 unfoldable pub verdict : Language → ℕ → List ℕ → List ℕ → ℕ → ℕ → Verdict
 verdict l limit source names tokenSpace treeSpace =
-    let scanned = scannedTokens l limit source names tokenSpace treeSpace (scan (l .lexical) source) in
-    let named = checkedNames (checked (l .lexical) names) scanned in
+    let scanned = scan (l .lexical) source in
+    let decided = scannedTokens l limit source names tokenSpace treeSpace (scanned .found) (scanned .ending) in
+    let named = checkedNames (checked (l .lexical) names) decided in
     pick (ltb sourceLimit (length source)) (early 1 0) named
 
 -- the answer, and what the token table and the tree table hold afterwards
@@ -68,16 +69,18 @@ pub record Result : Type 0 where
   pub tokens : List ℕ
   pub rows : List ℕ
 
--- "unchanged", "all tokens" and "whole rows all zero"
-unfoldable pub result : Verdict → List ℕ → List ℕ → Result
-result (early number place) tokens rows = record { answer = Refused number place; tokens = tokens; rows = rows }
-result (late number place ts) tokens rows = record { answer = Refused number place; tokens = filled ts tokens; rows = cleared rows }
-result (accept ts rs) tokens rows =
-    record { answer = Accepted (length ts) (length rs); tokens = filled ts tokens; rows = placed rs rows }
+-- "unchanged", "all tokens" and "whole rows all zero", for a source
+unfoldable pub result : List ℕ → Verdict → List ℕ → List ℕ → Result
+result source (early number place) tokens rows = record { answer = Refused number place; tokens = tokens; rows = rows }
+result source (late number place ts) tokens rows =
+    record { answer = Refused number place; tokens = filled source ts tokens; rows = cleared rows }
+result source (accept ts rs) tokens rows =
+    record { answer = Accepted (length ts) (length rs); tokens = filled source ts tokens; rows = placed rs rows }
 
 -- the answer for a source, a list of names, a token table and a tree table
 unfoldable pub answered : Language → ℕ → List ℕ → List ℕ → List ℕ → List ℕ → Result
-answered l limit source names tokens rows = result (verdict l limit source names (tokenRoom tokens) (treeRoom rows)) tokens rows
+answered l limit source names tokens rows =
+    result source (verdict l limit source names (tokenRoom tokens) (treeRoom rows)) tokens rows
 
 -- for grammar 1.7
 abbrev pub answer17 : List ℕ → List ℕ → List ℕ → List ℕ → Result

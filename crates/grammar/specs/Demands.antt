@@ -4,7 +4,7 @@ use Prim.Native.Nat.{ℕ, _<_, _≤_}
 use mathlib.Core.Path.{_≡_}
 use mathlib.Core.List.{List, flatten}
 use lib.ListN.{length}
-use Rattle.lexer.specs.Tokens.{Token, clean, fault, pieces, lexemes, scan}
+use Rattle.lexer.specs.Tokens.{Token, fault, cleanly, pieces, lexemes, scan}
 use Rattle.lexer.specs.Table.{sourceLimit, tokenRoom, filled}
 use Rattle.typenames.specs.NameList.{checked}
 use Rattle.typenames.specs.declared.Checked.{Checked}
@@ -30,7 +30,7 @@ module _ (l : Language) (source names : List ℕ) where
   pub record Readable (ts : List Token) : Type 0 where
     pub admitted : Admitted
     -- "tokens are clean when the source has nothing that No. 3 or 4 describes"
-    pub scans : scan (l .lexical) source ≡ clean ts
+    pub scans : scan (l .lexical) source ≡ cleanly ts
 
   -- and for a level limit and two lent tables
   module _ (limit : ℕ) (tokens rows : List ℕ) where
@@ -49,20 +49,20 @@ module _ (l : Language) (source names : List ℕ) where
       bad-names : {place : ℕ} → length source ≤ sourceLimit → checked (l .lexical) names ≡ Checked.Refused 2 place
           → Refusal 2 place tokens rows
       -- "a byte begins no token, space or comment"
-      bad-byte : {place : ℕ} → Admitted → scan (l .lexical) source ≡ fault 3 place → Refusal 3 place tokens rows
+      bad-byte : {place : ℕ} → Admitted → scan (l .lexical) source .ending ≡ fault 3 place → Refusal 3 place tokens rows
       -- "a string is not closed"
-      open-string : {place : ℕ} → Admitted → scan (l .lexical) source ≡ fault 4 place → Refusal 4 place tokens rows
+      open-string : {place : ℕ} → Admitted → scan (l .lexical) source .ending ≡ fault 4 place → Refusal 4 place tokens rows
       -- "more tokens than rows"
       few-token-rows : {ts : List Token} → Readable ts → tokenRoom tokens < length ts → Refusal 5 (length ts) tokens rows
       -- "no program": the place is "the token that the leftmost reading .. cannot take"
       no-program : {ts : List Token} {place : ℕ} → Readable ts → length ts ≤ tokenRoom tokens
-          → readTokens l limit source names ts ≡ stuck place → Refusal 6 place (filled ts tokens) (cleared rows)
+          → readTokens l limit source names ts ≡ stuck place → Refusal 6 place (filled source ts tokens) (cleared rows)
       -- "too deep": the place is "a token that can begin the row called for"
       too-deep : {ts : List Token} {place : ℕ} → Readable ts → length ts ≤ tokenRoom tokens
-          → readTokens l limit source names ts ≡ deep place → Refusal 7 place (filled ts tokens) (cleared rows)
+          → readTokens l limit source names ts ≡ deep place → Refusal 7 place (filled source ts tokens) (cleared rows)
       -- "more tree rows than room"
       few-tree-rows : {ts : List Token} {rs : List Row} → Readable ts → length ts ≤ tokenRoom tokens
-          → DerivationOf l source names ts limit rs → treeRoom rows < length rs → Refusal 8 (length rs) (filled ts tokens) (cleared rows)
+          → DerivationOf l source names ts limit rs → treeRoom rows < length rs → Refusal 8 (length rs) (filled source ts tokens) (cleared rows)
 
     -- what acceptance with two row counts says, of the tables afterwards
     pub record Acceptance (tokenCount rowCount : ℕ) (tokensAfter rowsAfter : List ℕ) : Type 0 where
@@ -72,7 +72,7 @@ module _ (l : Language) (source names : List ℕ) where
       pub room : Room token-list
       -- "The token table is the one that the lexical rules of grammar 1.7 give"
       pub token-count : tokenCount ≡ length token-list
-      pub token-table : tokensAfter ≡ filled token-list tokens
+      pub token-table : tokensAfter ≡ filled source token-list tokens
       -- "the rows are, in order, a derivation of those tokens by the grammar", "nested at most 200 levels"
       pub row-count : rowCount ≡ length row-list
       pub row-table : rowsAfter ≡ placed row-list rows
@@ -98,11 +98,11 @@ module _ (l : Language) (source names : List ℕ) where
       -- "It is accepted exactly when its tokens have a derivation ... nested at most 200 levels" (the other half is `accepted`
       -- above), and "The rows filled in the tree table are exactly its rows, in order, and the tree's row count is their number."
       pub accepts : (ts : List Token) (rs : List Row) → Readable ts → Room ts → DerivationOf l source names ts limit rs
-          → r ≡ record { answer = Accepted (length ts) (length rs); tokens = filled ts tokens; rows = placed rs rows }
+          → r ≡ record { answer = Accepted (length ts) (length rs); tokens = filled source ts tokens; rows = placed rs rows }
       -- "Every derivation of those tokens, at whatever depth, is then that same one."
       pub only : (tokenCount rowCount : ℕ) → r .answer ≡ Accepted tokenCount rowCount → (ts : List Token) → Readable ts
           → (n : ℕ) (rs : List Row) → DerivationOf l source names ts n rs
-          → r ≡ record { answer = Accepted (length ts) (length rs); tokens = filled ts tokens; rows = placed rs rows }
+          → r ≡ record { answer = Accepted (length ts) (length rs); tokens = filled source ts tokens; rows = placed rs rows }
       -- "“No program” is said only if there is no derivation at any depth"
       pub no-derivation : (place : ℕ) → r .answer ≡ Refused 6 place → (ts : List Token) → Readable ts
           → (n : ℕ) (rs : List Row) → DerivationOf l source names ts n rs → ⊥

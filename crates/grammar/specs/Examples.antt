@@ -31,7 +31,7 @@ pub record Example : Type 0 where
   pub expected : Expected
 
 abbrev pub token : ℕ → ℕ → ℕ → Token
-token k s n = record { kind = k; start = s; length = n }
+token k s n = record { kind = k; start = s; size = n }
 
 abbrev pub node : ℕ → ℕ → ℕ → ℕ → Row
 node k f c n = record { kind = k; first = f; cover = c; count = n }
@@ -43,10 +43,13 @@ lentTokens = replicate 62 7
 unfoldable pub lentRows : List ℕ
 lentRows = replicate 50 7
 
-unfoldable pub resultOf : Expected → Result
-resultOf (accepts ts rs) = record { answer = Accepted (length ts) (length rs); tokens = filled ts lentTokens; rows = placed rs lentRows }
-resultOf (refusedEarly number place) = record { answer = Refused number place; tokens = lentTokens; rows = lentRows }
-resultOf (refusedLate number place ts) = record { answer = Refused number place; tokens = filled ts lentTokens; rows = cleared lentRows }
+-- what that is for a source
+unfoldable pub resultOf : List ℕ → Expected → Result
+resultOf source (accepts ts rs) =
+    record { answer = Accepted (length ts) (length rs); tokens = filled source ts lentTokens; rows = placed rs lentRows }
+resultOf source (refusedEarly number place) = record { answer = Refused number place; tokens = lentTokens; rows = lentRows }
+resultOf source (refusedLate number place ts) =
+    record { answer = Refused number place; tokens = filled source ts lentTokens; rows = cleared lentRows }
 
 -- a source that is a text, with no extra names
 unfoldable pub example : String → Expected → Example

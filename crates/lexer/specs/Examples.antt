@@ -1,20 +1,20 @@
--- Examples of the papers about bytes and tokens, as one table: a source, and its tokens or its first fault. The claim that
--- `scan` gives what the table says, for each of its rows, is `examples-hold` in proofs/.
+-- Examples of the papers about bytes and tokens, as one table: a source, its tokens up to its first fault, and how it ends. The
+-- claim that `scan` gives what the table says, for each of its rows, is `examples-hold` in proofs/.
 use Prim.Native.Nat.{ℕ}
 use Prim.Native.String.{String}
 use mathlib.Core.List.{List, [], _∷_}
 use Rattle.lexer.specs.Text.{bytes}
 use Rattle.lexer.specs.Kinds.{ident, keyword, boolean, sizeof, int, float, string, colon, equal, question, dot, plus, minus, slash}
 use Rattle.lexer.specs.Kinds.{less, equalEqual, lessLess, questionQuestion, arrow}
-use Rattle.lexer.specs.Tokens.{Token, Scan, clean, fault}
+use Rattle.lexer.specs.Tokens.{Token, Scan, cleanly, faultAfter}
 
 pub record Example : Type 0 where
   pub source : List ℕ
   pub outcome : Scan
 
--- a token: its kind, its first byte and its length
+-- a token: its kind, its first byte and its size
 abbrev pub token : ℕ → ℕ → ℕ → Token
-token k s n = record { kind = k; start = s; length = n }
+token k s n = record { kind = k; start = s; size = n }
 
 -- a source that is a text
 unfoldable pub example : String → Scan → Example
@@ -25,40 +25,40 @@ unfoldable pub examples : List Example
 unfolding example
 examples =
     -- M1, M2 and the tokens of M5
-    example "" (clean []) ∷
-    example ": i floor -40" (clean (token colon 0 1 ∷ token keyword 2 1 ∷ token ident 4 5 ∷ token int 10 3 ∷ [])) ∷
-    example "??i" (clean (token questionQuestion 0 2 ∷ token keyword 2 1 ∷ [])) ∷
+    example "" (cleanly []) ∷
+    example ": i floor -40" (cleanly (token colon 0 1 ∷ token keyword 2 1 ∷ token ident 4 5 ∷ token int 10 3 ∷ [])) ∷
+    example "??i" (cleanly (token questionQuestion 0 2 ∷ token keyword 2 1 ∷ [])) ∷
     -- M6: a join takes an IDENT and no keyword, and no space
-    example "m::alloc" (clean (token ident 0 8 ∷ [])) ∷
-    example "m::i" (clean (token ident 0 1 ∷ token colon 1 1 ∷ token colon 2 1 ∷ token keyword 3 1 ∷ [])) ∷
-    example "a :: xx" (clean (token ident 0 1 ∷ token colon 2 1 ∷ token colon 3 1 ∷ token ident 5 2 ∷ [])) ∷
-    example "a::xx::i" (clean (token ident 0 5 ∷ token colon 5 1 ∷ token colon 6 1 ∷ token keyword 7 1 ∷ [])) ∷
-    example "a:::xx" (clean (token ident 0 1 ∷ token colon 1 1 ∷ token colon 2 1 ∷ token colon 3 1 ∷ token ident 4 2 ∷ [])) ∷
-    example "T::xx" (clean (token boolean 0 1 ∷ token colon 1 1 ∷ token colon 2 1 ∷ token ident 3 2 ∷ [])) ∷
-    example "Z m::_" (clean (token sizeof 0 1 ∷ token ident 2 4 ∷ [])) ∷
+    example "m::alloc" (cleanly (token ident 0 8 ∷ [])) ∷
+    example "m::i" (cleanly (token ident 0 1 ∷ token colon 1 1 ∷ token colon 2 1 ∷ token keyword 3 1 ∷ [])) ∷
+    example "a :: xx" (cleanly (token ident 0 1 ∷ token colon 2 1 ∷ token colon 3 1 ∷ token ident 5 2 ∷ [])) ∷
+    example "a::xx::i" (cleanly (token ident 0 5 ∷ token colon 5 1 ∷ token colon 6 1 ∷ token keyword 7 1 ∷ [])) ∷
+    example "a:::xx" (cleanly (token ident 0 1 ∷ token colon 1 1 ∷ token colon 2 1 ∷ token colon 3 1 ∷ token ident 4 2 ∷ [])) ∷
+    example "T::xx" (cleanly (token boolean 0 1 ∷ token colon 1 1 ∷ token colon 2 1 ∷ token ident 3 2 ∷ [])) ∷
+    example "Z m::_" (cleanly (token sizeof 0 1 ∷ token ident 2 4 ∷ [])) ∷
     -- M7 and M8; an arrow that is cut short
-    example "`" (fault 4 0) ∷
-    example "," (fault 3 0) ∷
-    record { source = 0x20 ∷ 0xE2 ∷ 0x86 ∷ []; outcome = fault 3 1 } ∷
+    example "`" (faultAfter [] 4 0) ∷
+    example "," (faultAfter [] 3 0) ∷
+    record { source = 0x20 ∷ 0xE2 ∷ 0x86 ∷ []; outcome = faultAfter [] 3 1 } ∷
     -- the minus of a number
-    example "5-3" (clean (token int 0 1 ∷ token int 1 2 ∷ [])) ∷
-    example "--3" (clean (token minus 0 1 ∷ token int 1 2 ∷ [])) ∷
-    example "- 4" (clean (token minus 0 1 ∷ token int 2 1 ∷ [])) ∷
-    example "-.5" (clean (token minus 0 1 ∷ token dot 1 1 ∷ token int 2 1 ∷ [])) ∷
+    example "5-3" (cleanly (token int 0 1 ∷ token int 1 2 ∷ [])) ∷
+    example "--3" (cleanly (token minus 0 1 ∷ token int 1 2 ∷ [])) ∷
+    example "- 4" (cleanly (token minus 0 1 ∷ token int 2 1 ∷ [])) ∷
+    example "-.5" (cleanly (token minus 0 1 ∷ token dot 1 1 ∷ token int 2 1 ∷ [])) ∷
     -- numbers that stop before what is not all there
-    example "1.0e" (clean (token float 0 3 ∷ token ident 3 1 ∷ [])) ∷
-    example "1.0e+x" (clean (token float 0 3 ∷ token ident 3 1 ∷ token plus 4 1 ∷ token ident 5 1 ∷ [])) ∷
-    example "-1.50E-03" (clean (token float 0 9 ∷ [])) ∷
-    example "3." (clean (token int 0 1 ∷ token dot 1 1 ∷ [])) ∷
-    example "1e5" (clean (token int 0 1 ∷ token ident 1 2 ∷ [])) ∷
+    example "1.0e" (cleanly (token float 0 3 ∷ token ident 3 1 ∷ [])) ∷
+    example "1.0e+x" (cleanly (token float 0 3 ∷ token ident 3 1 ∷ token plus 4 1 ∷ token ident 5 1 ∷ [])) ∷
+    example "-1.50E-03" (cleanly (token float 0 9 ∷ [])) ∷
+    example "3." (cleanly (token int 0 1 ∷ token dot 1 1 ∷ [])) ∷
+    example "1e5" (cleanly (token int 0 1 ∷ token ident 1 2 ∷ [])) ∷
     -- the longest mark
-    example "===" (clean (token equalEqual 0 2 ∷ token equal 2 1 ∷ [])) ∷
-    example "???" (clean (token questionQuestion 0 2 ∷ token question 2 1 ∷ [])) ∷
-    example "<<<" (clean (token lessLess 0 2 ∷ token less 2 1 ∷ [])) ∷
-    example "→→" (clean (token arrow 0 3 ∷ token arrow 3 3 ∷ [])) ∷
+    example "===" (cleanly (token equalEqual 0 2 ∷ token equal 2 1 ∷ [])) ∷
+    example "???" (cleanly (token questionQuestion 0 2 ∷ token question 2 1 ∷ [])) ∷
+    example "<<<" (cleanly (token lessLess 0 2 ∷ token less 2 1 ∷ [])) ∷
+    example "→→" (cleanly (token arrow 0 3 ∷ token arrow 3 3 ∷ [])) ∷
     -- strings and comments, and which fault is met first
-    example "`a,→`x//`," (clean (token string 0 7 ∷ token ident 7 1 ∷ [])) ∷
-    example "/ / //" (clean (token slash 0 1 ∷ token slash 2 1 ∷ [])) ∷
-    example "a ,`" (fault 3 2) ∷
-    example "a `," (fault 4 2) ∷
+    example "`a,→`x//`," (cleanly (token string 0 7 ∷ token ident 7 1 ∷ [])) ∷
+    example "/ / //" (cleanly (token slash 0 1 ∷ token slash 2 1 ∷ [])) ∷
+    example "a ,`" (faultAfter (token ident 0 1 ∷ []) 3 2) ∷
+    example "a `," (faultAfter (token ident 0 1 ∷ []) 4 2) ∷
     []

@@ -2,10 +2,10 @@
 use Prim.Native.Nat.{ℕ, _*_, _/_}
 use mathlib.Core.List.{List, [], _∷_, _++_}
 use lib.Dec.{ltb, leb}
-use lib.ListN.{length, drop, getD}
+use lib.ListN.{length, take, drop, getD}
 use Rattle.lexer.specs.Tests.{pick}
 use Rattle.lexer.specs.Editions.{Edition}
-use Rattle.lexer.specs.Tokens.{Token, Scan, clean, fault, scan}
+use Rattle.lexer.specs.Tokens.{Token, Ending, clean, fault, Scan, scan}
 use Rattle.lexer.specs.declared.Scanned.{Scanned}
 use Rattle.lexer.specs.declared.Scanned.the-variants.{Tokens, Refused}
 
@@ -21,27 +21,30 @@ tokenWidth = 3
 abbrev pub tokenRoom : List ℕ → ℕ
 tokenRoom table = length table / tokenWidth
 
--- "three u32 per row (kind, start byte, length)"
-abbrev pub tokenRow : Token → List ℕ
-tokenRow t = t .kind ∷ t .start ∷ t .length ∷ []
+-- "three u32 per row (kind, start byte, length)", for a token of a source
+unfoldable pub tokenRow : List ℕ → Token → List ℕ
+tokenRow source t = t .kind ∷ t .start ∷ t .size ∷ []
 
-unfoldable pub tokenRows : List Token → List ℕ
-tokenRows [] = []
-tokenRows (t ∷ ts) = tokenRow t ++ tokenRows ts
+unfoldable pub tokenRows : List ℕ → List Token → List ℕ
+tokenRows source [] = []
+tokenRows source (t ∷ ts) = tokenRow source t ++ tokenRows source ts
 
--- the first rows hold the tokens, all other numbers are as they were
-unfoldable pub filled : List Token → List ℕ → List ℕ
-filled ts table = tokenRows ts ++ drop (length ts * tokenWidth) table
+-- the first rows hold the tokens of a source, all other numbers are as they were
+unfoldable pub filled : List ℕ → List Token → List ℕ → List ℕ
+filled source ts table = tokenRows source ts ++ drop (length ts * tokenWidth) table
 
--- the tokens of a source, none where it has a fault
-unfoldable pub tokensOf : Scan → List Token
-tokensOf (clean ts) = ts
-tokensOf (fault number place) = []
+-- the first rows hold as many of the tokens as there are whole rows for
+unfoldable pub kept : List ℕ → List Token → List ℕ → List ℕ
+kept source ts table = filled source (take (tokenRoom table) ts) table
+
+-- so many tokens, or the fault
+unfoldable pub endedWith : ℕ → Ending → Scanned
+endedWith count clean = Tokens count
+endedWith count (fault number place) = Refused number place
 
 -- the number of tokens, or the fault
 unfoldable pub scanned : Scan → Scanned
-scanned (clean ts) = Tokens (length ts)
-scanned (fault number place) = Refused number place
+scanned x = endedWith (length (x .found)) (x .ending)
 
 -- refusal 1, else what the source's tokens are
 unfoldable pub counted : Edition → List ℕ → Scanned
@@ -71,23 +74,23 @@ abbrev pub tokenizedValues : Edition → List ℕ → List ℕ → List ℕ
 tokenizedValues e s table = scannedValues (tokenized e s table)
 
 -- on 1, 3, 4 and 5 the table is unchanged
-unfoldable pub afterAnswer : Scanned → List Token → List ℕ → List ℕ
-afterAnswer (Tokens n) ts table = filled ts table
-afterAnswer (Refused number place) ts table = table
+unfoldable pub afterAnswer : Scanned → List ℕ → List Token → List ℕ → List ℕ
+afterAnswer (Tokens n) source ts table = filled source ts table
+afterAnswer (Refused number place) source ts table = table
 
 -- what it leaves in the table
 unfoldable pub tableAfter : Edition → List ℕ → List ℕ → List ℕ
-tableAfter e s table = afterAnswer (tokenized e s table) (tokensOf (scan e s)) table
+tableAfter e s table = afterAnswer (tokenized e s table) s (scan e s .found) table
 
 -- the whole rows of a table, each as the token that it says
 unfoldable pub rowsOf : List ℕ → List Token
 rowsOf [] = []
 rowsOf (k ∷ []) = []
 rowsOf (k ∷ s ∷ []) = []
-rowsOf (k ∷ s ∷ n ∷ table) = record { kind = k; start = s; length = n } ∷ rowsOf table
+rowsOf (k ∷ s ∷ n ∷ table) = record { kind = k; start = s; size = n } ∷ rowsOf table
 
 abbrev pub noToken : Token
-noToken = record { kind = 0; start = 0; length = 0 }
+noToken = record { kind = 0; start = 0; size = 0 }
 
 -- what a row says, all 0 past the whole rows
 unfoldable pub rowAt : List ℕ → ℕ → Token
@@ -99,5 +102,5 @@ kindAt table row = rowAt table row .kind
 abbrev pub startAt : List ℕ → ℕ → ℕ
 startAt table row = rowAt table row .start
 
-abbrev pub lengthAt : List ℕ → ℕ → ℕ
-lengthAt table row = rowAt table row .length
+abbrev pub sizeAt : List ℕ → ℕ → ℕ
+sizeAt table row = rowAt table row .size

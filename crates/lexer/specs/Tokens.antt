@@ -1,4 +1,4 @@
--- The token list of a source, or its first fault.
+-- The tokens of a source, up to its first fault, and how it ends.
 use Prim.Native.Nat.{ℕ, zero, suc, _+_}
 use mathlib.Core.List.{List, [], _∷_}
 use lib.ListN.{length, take, drop}
@@ -8,12 +8,12 @@ use Rattle.lexer.specs.declared.Lexeme.{Lexeme}
 use Rattle.lexer.specs.declared.Lexeme.the-variants.{End, Skipped, BadByte, OpenString}
 
 -- how many bytes a lexeme takes
-unfoldable pub size : Lexeme → ℕ
-size End = 0
-size (Skipped n) = n
-size (Lexeme.Token k n) = n
-size BadByte = 0
-size OpenString = 0
+unfoldable pub lexemeSize : Lexeme → ℕ
+lexemeSize End = 0
+lexemeSize (Skipped n) = n
+lexemeSize (Lexeme.Token k n) = n
+lexemeSize BadByte = 0
+lexemeSize OpenString = 0
 
 -- a lexeme before those of the bytes after it; a fault ends the list
 unfoldable pub follow : Lexeme → List Lexeme → List Lexeme
@@ -27,7 +27,7 @@ follow OpenString rest = OpenString ∷ []
 unfoldable pub lexemesWithin : Edition → ℕ → List ℕ → List Lexeme
 lexemesWithin e zero s = []
 lexemesWithin e (suc m) s =
-    let rest = lexemesWithin e m (drop (size (lexeme e s)) s) in
+    let rest = lexemesWithin e m (drop (lexemeSize (lexeme e s)) s) in
     follow (lexeme e s) rest
 
 -- each lexeme takes a byte at least, so that the length bounds their number
@@ -37,22 +37,34 @@ lexemes e s = lexemesWithin e (length s) s
 -- some bytes cut by the sizes of lexemes, in order
 unfoldable pub pieces : List ℕ → List Lexeme → List (List ℕ)
 pieces s [] = []
-pieces s (l ∷ ls) = take (size l) s ∷ pieces (drop (size l) s) ls
+pieces s (l ∷ ls) = take (lexemeSize l) s ∷ pieces (drop (lexemeSize l) s) ls
 
--- a token: its kind, the offset of its first byte, and its length in bytes
+-- a token: its kind, the offset of its first byte, and its size in bytes
 pub record Token : Type 0 where
   pub kind : ℕ
   pub start : ℕ
-  pub length : ℕ
+  pub size : ℕ
 
--- what a source is: its tokens, or its first fault with the fault's number in document 01's table and its offset
-pub data Scan : Type 0 where
-  clean : List Token → Scan
-  fault : ℕ → ℕ → Scan
+-- how a source ends: clean, or at its first fault, with the fault's number in document 01's table and its offset
+pub data Ending : Type 0 where
+  clean : Ending
+  fault : ℕ → ℕ → Ending
+
+-- what a source is: the tokens found, up to its first fault if it has one, and how it ends
+pub record Scan : Type 0 where
+  pub found : List Token
+  pub ending : Ending
+
+-- these tokens, and no fault
+abbrev pub cleanly : List Token → Scan
+cleanly ts = record { found = ts; ending = clean }
+
+-- these tokens, and then a fault
+abbrev pub faultAfter : List Token → ℕ → ℕ → Scan
+faultAfter ts number place = record { found = ts; ending = fault number place }
 
 unfoldable pub withToken : Token → Scan → Scan
-withToken t (clean ts) = clean (t ∷ ts)
-withToken t (fault number place) = fault number place
+withToken t x = record { found = t ∷ x .found; ending = x .ending }
 
 abbrev pub badByteNumber : ℕ
 badByteNumber = 3
@@ -62,13 +74,13 @@ openStringNumber = 4
 
 -- lexemes in order, the first of them at an offset, as tokens in their places
 unfoldable pub located : ℕ → List Lexeme → Scan
-located at [] = clean []
-located at (End ∷ ls) = clean []
+located at [] = cleanly []
+located at (End ∷ ls) = cleanly []
 located at (Skipped n ∷ ls) = located (at + n) ls
-located at (Lexeme.Token k n ∷ ls) = withToken (record { kind = k; start = at; length = n }) (located (at + n) ls)
-located at (BadByte ∷ ls) = fault badByteNumber at
-located at (OpenString ∷ ls) = fault openStringNumber at
+located at (Lexeme.Token k n ∷ ls) = withToken (record { kind = k; start = at; size = n }) (located (at + n) ls)
+located at (BadByte ∷ ls) = faultAfter [] badByteNumber at
+located at (OpenString ∷ ls) = faultAfter [] openStringNumber at
 
--- the token list of a source, or its first fault
+-- the tokens of a source, up to its first fault, and how it ends
 unfoldable pub scan : Edition → List ℕ → Scan
 scan e s = located 0 (lexemes e s)

@@ -1,13 +1,20 @@
 // The token table: the one place that knows how wide its rows are.
 ghost use mathlib.Core.Path.{_≡_};
 ghost use Prim.Native.Nat.{_+_, _*_, _≤_, _<_};
-ghost use mathlib.Core.List.{[], _∷_};
 ghost use lib.ListN.{length, getD};
 ghost use lib.Seq.{sets};
-ghost use Rattle.lexer.specs.Table.{tokenWidth, tokenRoom, tokenRow, rowAt, kindAt, startAt, lengthAt};
+ghost use Rattle.lexer.specs.Table.{tokenWidth, tokenRoom, rowAt, kindAt, startAt, sizeAt};
+ghost use Rattle.lexer.specs.Leaves.{rowNumbers, ownNumbers};
 
-// The numbers in a row: a token's kind, start and length.
+// How many numbers a row has.
 pub const WIDTH: usize = 3;
+
+// The numbers of a row: a token's kind, the offset of its first byte, and its size in bytes.
+pub struct TokenRow {
+    pub kind: u32,
+    pub start: u32,
+    pub size: u32,
+}
 
 // How many whole rows the table has.
 pub fn room(table: &[u32]) -> usize
@@ -19,7 +26,7 @@ pub fn room(table: &[u32]) -> usize
 // The number in a column of a row, 0 past the whole rows.
 fn entry_at(table: &[u32], row: usize, column: usize) -> u32
     requires { ⌜ column < tokenWidth ⌝ }
-    ensures { λ r. ⌜ r ≡ getD (tokenRow (rowAt (now (table .entry)) row)) column 0 ⌝ }
+    ensures { λ r. ⌜ r ≡ getD (ownNumbers (rowAt (now (table .entry)) row)) column 0 ⌝ }
 {
     if row < table.len() / WIDTH {
         return table[row * WIDTH + column];
@@ -42,19 +49,19 @@ pub fn start_at(table: &[u32], row: usize) -> u32
 }
 
 // How many bytes a token has.
-pub fn length_at(table: &[u32], row: usize) -> u32
-    ensures { λ r. ⌜ r ≡ lengthAt (now (table .entry)) row ⌝ }
+pub fn size_at(table: &[u32], row: usize) -> u32
+    ensures { λ r. ⌜ r ≡ sizeAt (now (table .entry)) row ⌝ }
 {
     entry_at(table, row, 2)
 }
 
 // Writes a token's row.
-pub(crate) fn put_token(table: &mut [u32], row: usize, kind: u32, start: u32, len: u32)
+pub(crate) fn put_token(table: &mut [u32], row: usize, token: TokenRow)
     requires { ⌜ (row + 1) * tokenWidth ≤ length (now table) ⌝ }
-    ensures { λ r. ⌜ now (table .exit) ≡ sets (now (table .entry)) (row * tokenWidth) (kind ∷ start ∷ len ∷ []) ⌝ }
+    ensures { λ r. ⌜ now (table .exit) ≡ sets (now (table .entry)) (row * tokenWidth) (rowNumbers token) ⌝ }
 {
     let at = row * WIDTH;
-    table[at] = kind;
-    table[at + 1] = start;
-    table[at + 2] = len;
+    table[at] = token.kind;
+    table[at + 1] = token.start;
+    table[at + 2] = token.size;
 }

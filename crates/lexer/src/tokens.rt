@@ -3,12 +3,13 @@ use crate::Lexeme;
 use crate::Scanned;
 use crate::lexemes;
 use crate::table;
+use crate::table::TokenRow;
 ghost use mathlib.Core.Path.{_≡_};
 ghost use Prim.Native.Nat.{_+_, _*_, _≤_};
 ghost use lib.ListN.{length};
 ghost use Rattle.lexer.specs.Editions.{edition17};
 ghost use Rattle.lexer.specs.Tokens.{Scan, clean, scan};
-ghost use Rattle.lexer.specs.Table.{sourceLimit, tokenWidth, tokensOf, filled, scannedValues, counted, countedValues};
+ghost use Rattle.lexer.specs.Table.{sourceLimit, tokenWidth, filled, scannedValues, counted, countedValues};
 ghost use Rattle.lexer.specs.Table.{tokenized, tokenizedValues, tableAfter};
 
 // The most bytes that a source may have.
@@ -42,9 +43,9 @@ pub fn count_tokens(source: &[u8]) -> Scanned
 // Writes the tokens of a source without a fault into the first rows of the table.
 fn fill(source: &[u8], table: &mut [u32])
     requires { ⌜ length (now source) ≤ sourceLimit ⌝ }
-    requires { ⌜ scan edition17 (now source) ≡ clean (tokensOf (scan edition17 (now source))) ⌝ }
-    requires { ⌜ length (tokensOf (scan edition17 (now source))) * tokenWidth ≤ length (now table) ⌝ }
-    ensures { λ r. ⌜ now (table .exit) ≡ filled (tokensOf (scan edition17 (now (source .entry)))) (now (table .entry)) ⌝ }
+    requires { ⌜ scan edition17 (now source) .ending ≡ clean ⌝ }
+    requires { ⌜ length (scan edition17 (now source) .found) * tokenWidth ≤ length (now table) ⌝ }
+    ensures { λ r. ⌜ now (table .exit) ≡ filled (now (source .entry)) (scan edition17 (now (source .entry)) .found) (now (table .entry)) ⌝ }
 {
     let mut at = 0;
     let mut row = 0;
@@ -54,7 +55,9 @@ fn fill(source: &[u8], table: &mut [u32])
             Lexeme::End => return,
             Lexeme::Skipped(len) => at += len,
             Lexeme::Token(kind, len) => {
-                table::put_token(table, row, kind, at as u32, len as u32);
+                let start = at as u32;
+                let size = len as u32;
+                table::put_token(table, row, TokenRow { kind, start, size });
                 row += 1;
                 at += len;
             }

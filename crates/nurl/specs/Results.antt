@@ -10,4 +10,4 @@ use Rattle.grammar.specs.Answers.{levelLimit, judged, Result, result}
 -- No. 6 to 8 of document 01's table, or acceptance: the answer, and what the tree table holds afterwards
 abbrev pub treeResult : List ℕ → List ℕ → List ℕ → List ℕ → Result
 treeResult source names tokens rows =
-    result (judged (treeRoom rows) (rowsOf tokens) (readTokens language17 levelLimit source names (rowsOf tokens))) tokens rows
+    result source (judged (treeRoom rows) (rowsOf tokens) (readTokens language17 levelLimit source names (rowsOf tokens))) tokens rows

@@ -9,7 +9,7 @@ ghost use mathlib.Core.Path.{_≡_};
 ghost use Prim.Native.Nat.{_≤_};
 ghost use lib.ListN.{length, replicate};
 ghost use Rattle.lexer.specs.Editions.{edition17};
-ghost use Rattle.lexer.specs.Tokens.{clean, scan};
+ghost use Rattle.lexer.specs.Tokens.{cleanly, scan};
 ghost use Rattle.lexer.specs.Table.{sourceLimit, rowsOf};
 ghost use Rattle.typenames.specs.NameList.{nameLimit};
 ghost use Rattle.grammar.specs.Languages.{language17};
@@ -32,7 +32,7 @@ fn names_buffer() -> [u8; 20480]
 fn read_tokens(source: &[u8], names: &[u8], tokens: &[u32], rows: &mut [u32]) -> Answer
     requires { ⌜ length (now source) ≤ sourceLimit ⌝ }
     requires { ⌜ length (now names) ≤ nameLimit ⌝ }
-    requires { ⌜ scan edition17 (now source) ≡ clean (rowsOf (now tokens)) ⌝ }
+    requires { ⌜ scan edition17 (now source) ≡ cleanly (rowsOf (now tokens)) ⌝ }
     ensures answer { λ r. ⌜ r
         ≡ treeResult (now (source .entry)) (now (names .entry)) (now (tokens .entry)) (now (rows .entry)) .answer ⌝ }
     ensures table { λ r. ⌜ now (rows .exit)

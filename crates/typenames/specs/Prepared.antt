@@ -40,12 +40,12 @@ markedAll p [] = p
 markedAll p (n ∷ ns) = markedAll (marked p n) ns
 
 -- the names that pass a test, in their order
-unfoldable pub kept : (List ℕ → Bool) → List (List ℕ) → List (List ℕ)
-kept f [] = []
-kept f (n ∷ ns) =
-    let rest = kept f ns in
+unfoldable pub passing : (List ℕ → Bool) → List (List ℕ) → List (List ℕ)
+passing f [] = []
+passing f (n ∷ ns) =
+    let rest = passing f ns in
     pick (f n) (n ∷ rest) rest
 
 -- the type names that a prepared list lets through: where each of them is marked, all type names
 unfoldable pub preparedNames : List ℕ → List ℕ → List Item → List (List ℕ)
-preparedNames opening p ts = kept (passes p) (typeNames opening (entries (drop slots p)) ts)
+preparedNames opening p ts = passing (passes p) (typeNames opening (entries (drop slots p)) ts)

@@ -18,7 +18,7 @@ pub record Item : Type 0 where
   pub text : List ℕ
 
 unfoldable pub itemOf : List ℕ → Token → Item
-itemOf source t = record { kind = t .kind; text = take (t .length) (drop (t .start) source) }
+itemOf source t = record { kind = t .kind; text = take (t .size) (drop (t .start) source) }
 
 -- the token in a row of a table, with its text
 abbrev pub itemAt : List ℕ → List ℕ → ℕ → Item

@@ -10,8 +10,9 @@ use lib.Dec.{eqb, leb, ltb}
 use lib.ListN.{length}
 use borrow.Author.Tests.{eqb-false, ltb-true, ltb-false, leb-true, leb-false, lt-ltb, le-ltb, le-leb, lt-leb}
 use Rattle.lexer.specs.Tests.{pick}
-use Rattle.lexer.specs.Tokens.{Token, Scan, clean, fault, scan}
+use Rattle.lexer.specs.Tokens.{Token, Ending, clean, fault, scan}
 use Rattle.lexer.specs.Table.{sourceLimit, tokenRoom, filled}
+use Rattle.lexer.proofs.Laws.Scans.{cleanly-found, found-once}
 use Rattle.lexer.proofs.Laws.Cover.{clean-cover}
 use Rattle.lexer.proofs.Laws.Places.{fault-placed}
 use Rattle.typenames.specs.NameList.{checked}
@@ -35,7 +36,7 @@ module _ (l : Language) (source names : List ℕ) (limit : ℕ) (tokens rows : L
   data Found : Verdict → Type 0 where
     found-early : {number place : ℕ} → Refusal l source names limit tokens rows number place tokens rows → Found (early number place)
     found-late : {number place : ℕ} {ts : List Token}
-        → Refusal l source names limit tokens rows number place (filled ts tokens) (cleared rows) → Found (late number place ts)
+        → Refusal l source names limit tokens rows number place (filled source ts tokens) (cleared rows) → Found (late number place ts)
     found-accept : {ts : List Token} {rs : List Row} → Readable l source names ts → length ts ≤ tokenRoom tokens
         → length rs ≤ treeRoom rows → DerivationOf l source names ts limit rs → Found (accept ts rs)
 
@@ -47,33 +48,37 @@ module _ (l : Language) (source names : List ℕ) (limit : ℕ) (tokens rows : L
 
   verdict-within : length source ≤ sourceLimit → verdict l limit source names (tokenRoom tokens) (treeRoom rows)
       ≡ checkedNames (checked (l .lexical) names)
-      (scannedTokens l limit source names (tokenRoom tokens) (treeRoom rows) (scan (l .lexical) source))
+      (scannedTokens l limit source names (tokenRoom tokens) (treeRoom rows) (scan (l .lexical) source .found) (scan (l .lexical) source .ending))
   unfolding verdict
   verdict-within within = rw (le-ltb sourceLimit (length source) within)
 
-  verdict-good : Admitted l source names → (s : Scan) → scan (l .lexical) source ≡ s
-      → verdict l limit source names (tokenRoom tokens) (treeRoom rows)
-      ≡ scannedTokens l limit source names (tokenRoom tokens) (treeRoom rows) s
+  verdict-fault : Admitted l source names → (number place : ℕ) → scan (l .lexical) source .ending ≡ fault number place
+      → verdict l limit source names (tokenRoom tokens) (treeRoom rows) ≡ early number place
+  unfolding checkedNames scannedTokens
+  verdict-fault a number place h = verdict-within (a .within) ∙ rw (a .good, h)
+
+  verdict-clean : (ts : List Token) → Readable l source names ts → verdict l limit source names (tokenRoom tokens) (treeRoom rows)
+      ≡ scannedTokens l limit source names (tokenRoom tokens) (treeRoom rows) ts clean
   unfolding checkedNames
-  verdict-good a s h = verdict-within (a .within) ∙ rw (a .good, h)
+  verdict-clean ts r = verdict-within (r .admitted .within) ∙ rw (r .admitted .good, r .scans)
 
   verdict-read : (ts : List Token) → Readable l source names ts → length ts ≤ tokenRoom tokens → (o : Outcome)
       → readTokens l limit source names ts ≡ o
       → verdict l limit source names (tokenRoom tokens) (treeRoom rows) ≡ judged (treeRoom rows) ts o
   unfolding scannedTokens
   verdict-read ts r room o h =
-      verdict-good (r .admitted) (clean ts) (r .scans) ∙ rw (le-leb (length ts) (tokenRoom tokens) room, h)
+      verdict-clean ts r ∙ rw (le-leb (length ts) (tokenRoom tokens) room, h)
 
   -- where the tokens are readable and have room, the reading says the rest
   pub read-result : (ts : List Token) → Readable l source names ts → length ts ≤ tokenRoom tokens
       → answered l limit source names tokens rows
-      ≡ result (judged (treeRoom rows) ts (readTokens l limit source names ts)) tokens rows
+      ≡ result source (judged (treeRoom rows) ts (readTokens l limit source names ts)) tokens rows
   unfolding answered
   read-result ts r room = rw (verdict-read ts r room (readTokens l limit source names ts) refl)
 
   -- the tokens of a source are one list
   readable-same : (ts us : List Token) → Readable l source names ts → Readable l source names us → ts ≡ us
-  readable-same ts us r k = let one = r .scans in let two = k .scans in cc
+  readable-same ts us r k = found-once (scan (l .lexical) source) ts us (r .scans) (k .scans)
 
   -- what 6 and 7 say of the reading
   record Stops (number place : ℕ) (ts : List Token) : Type 0 where
@@ -127,23 +132,26 @@ module _ (l : Language) (source names : List ℕ) (limit : ℕ) (tokens rows : L
     found-tokens ts r false t = found-early (few-token-rows r (leb-false (length ts) (tokenRoom tokens) t))
 
     fault-by : {A B : Type 0} (number place : ℕ) → Admitted l source names
-        → scan (l .lexical) source ≡ fault number place → ((number ≡ 3) × A) ⊎ ((number ≡ 4) × B) → Found (early number place)
+        → scan (l .lexical) source .ending ≡ fault number place → ((number ≡ 3) × A) ⊎ ((number ≡ 4) × B) → Found (early number place)
     fault-by number place a h (inl (three, b)) = rw three (found-early (bad-byte a (rw three at h)))
     fault-by number place a h (inr (four, b)) = rw four (found-early (open-string a (rw four at h)))
 
-    found-scan : Admitted l source names → (s : Scan) → scan (l .lexical) source ≡ s
-        → Found (scannedTokens l limit source names (tokenRoom tokens) (treeRoom rows) s)
+    found-ending : Admitted l source names → (x : Ending) → scan (l .lexical) source .ending ≡ x
+        → Found (scannedTokens l limit source names (tokenRoom tokens) (treeRoom rows) (scan (l .lexical) source .found) x)
     unfolding scannedTokens
-    found-scan a (fault number place) h =
+    found-ending a (fault number place) h =
         fault-by number place a h (fault-placed (l .lexical) (fit .marks) source number place h .reason)
-    found-scan a (clean ts) h =
-        found-tokens ts (record { admitted = a; scans = h }) (leb (length ts) (tokenRoom tokens)) refl
+    found-ending a clean h =
+        let ts = scan (l .lexical) source .found in
+        let r : Readable l source names ts = record { admitted = a; scans = cleanly-found (scan (l .lexical) source) h } in
+        found-tokens ts r (leb (length ts) (tokenRoom tokens)) refl
 
     -- No. 2
     found-names : length source ≤ sourceLimit → (c : Checked) → checked (l .lexical) names ≡ c
-        → Found (checkedNames c (scannedTokens l limit source names (tokenRoom tokens) (treeRoom rows) (scan (l .lexical) source)))
+        → Found (checkedNames c (scannedTokens l limit source names (tokenRoom tokens) (treeRoom rows) (scan (l .lexical) source .found)
+        (scan (l .lexical) source .ending)))
     unfolding checkedNames
-    found-names within Good h = found-scan (record { within = within; good = h }) (scan (l .lexical) source) refl
+    found-names within Good h = found-ending (record { within = within; good = h }) (scan (l .lexical) source .ending) refl
     found-names within (Checked.Refused number place) h =
         let two = checked-two (l .lexical) names number place h in
         rw two (found-early (bad-names within (rw two at h)))
@@ -178,10 +186,10 @@ module _ (l : Language) (source names : List ℕ) (limit : ℕ) (tokens rows : L
     unfolding answered result scannedTokens judged checkedNames
     refusal-result number place ta ra (too-long long) = rw (verdict-long long)
     refusal-result number place ta ra (bad-names within h) = rw (verdict-within within, h)
-    refusal-result number place ta ra (bad-byte a h) = rw (verdict-good a (fault 3 place) h)
-    refusal-result number place ta ra (open-string a h) = rw (verdict-good a (fault 4 place) h)
+    refusal-result number place ta ra (bad-byte a h) = rw (verdict-fault a 3 place h)
+    refusal-result number place ta ra (open-string a h) = rw (verdict-fault a 4 place h)
     refusal-result number place ta ra (few-token-rows {ts = ts} r few) =
-        rw (verdict-good (r .admitted) (clean ts) (r .scans), lt-leb (length ts) (tokenRoom tokens) few)
+        rw (verdict-clean ts r, lt-leb (length ts) (tokenRoom tokens) few)
     refusal-result number place ta ra (no-program {ts = ts} r room h) = rw (verdict-read ts r room (stuck place) h)
     refusal-result number place ta ra (too-deep {ts = ts} r room h) = rw (verdict-read ts r room (deep place) h)
     refusal-result number place ta ra (few-tree-rows {ts = ts} {rs = rs} r room d few) =
@@ -190,13 +198,13 @@ module _ (l : Language) (source names : List ℕ) (limit : ℕ) (tokens rows : L
     accept-result : (ts : List Token) (rs : List Row) → Readable l source names ts → length ts ≤ tokenRoom tokens
         → length rs ≤ treeRoom rows → DerivationOf l source names ts limit rs
         → answered l limit source names tokens rows
-        ≡ record { answer = Accepted (length ts) (length rs); tokens = filled ts tokens; rows = placed rs rows }
+        ≡ record { answer = Accepted (length ts) (length rs); tokens = filled source ts tokens; rows = placed rs rows }
     unfolding answered result
     accept-result ts rs r room space d = rw (verdict-derived ts rs r room d, le-leb (length rs) (treeRoom rows) space)
 
     -- what a verdict's result says
-    refused-by : (w : Verdict) → Found w → (number place : ℕ) → result w tokens rows .answer ≡ Refused number place
-        → Refusal l source names limit tokens rows number place (result w tokens rows .tokens) (result w tokens rows .rows)
+    refused-by : (w : Verdict) → Found w → (number place : ℕ) → result source w tokens rows .answer ≡ Refused number place
+        → Refusal l source names limit tokens rows number place (result source w tokens rows .tokens) (result source w tokens rows .rows)
     unfolding result
     refused-by w (found-early {number = n} {place = p} r) number place h =
         let same : n ≡ number = cc in
@@ -208,8 +216,8 @@ module _ (l : Language) (source names : List ℕ) (limit : ℕ) (tokens rows : L
         rw (← same, ← at) r
     refused-by w (found-accept r room space d) number place h = let z : _≡_ {A = ℕ} 0 1 = cc in absurd (omega arith)
 
-    accepted-by : (w : Verdict) → Found w → (t n : ℕ) → result w tokens rows .answer ≡ Accepted t n
-        → Acceptance l source names limit tokens rows t n (result w tokens rows .tokens) (result w tokens rows .rows)
+    accepted-by : (w : Verdict) → Found w → (t n : ℕ) → result source w tokens rows .answer ≡ Accepted t n
+        → Acceptance l source names limit tokens rows t n (result source w tokens rows .tokens) (result source w tokens rows .rows)
     unfolding result
     accepted-by w (found-early r) t n h = let z : _≡_ {A = ℕ} 0 1 = cc in absurd (omega arith)
     accepted-by w (found-late r) t n h = let z : _≡_ {A = ℕ} 0 1 = cc in absurd (omega arith)
@@ -234,7 +242,7 @@ module _ (l : Language) (source names : List ℕ) (limit : ℕ) (tokens rows : L
     only-by : (t n : ℕ) (ta ra : List ℕ) → Acceptance l source names limit tokens rows t n ta ra → (ts : List Token)
         → Readable l source names ts → (m : ℕ) (rs : List Row) → DerivationOf l source names ts m rs
         → answered l limit source names tokens rows
-        ≡ record { answer = Accepted (length ts) (length rs); tokens = filled ts tokens; rows = placed rs rows }
+        ≡ record { answer = Accepted (length ts) (length rs); tokens = filled source ts tokens; rows = placed rs rows }
     only-by t n ta ra a ts k m rs d =
         let tokens-same = readable-same (a .token-list) ts (a .readable) k in
         let derived = subst (λ (us : List Token). DerivationOf l source names us limit (a .row-list)) tokens-same (a .derived) in
@@ -273,9 +281,9 @@ module _ (l : Language) (source names : List ℕ) (limit : ℕ) (tokens rows : L
     unfolding answered result
     demands-answered r d = cases (verdict l limit source names (tokenRoom tokens) (treeRoom rows)) found
       where
-        cases : (w : Verdict) → Found w → r ≡ result w tokens rows
+        cases : (w : Verdict) → Found w → r ≡ result source w tokens rows
         cases w (found-early {number = number} {place = place} f) = d .demand1 .refusal number place tokens rows f
-        cases w (found-late {number = number} {place = place} {ts = ts} f) = d .demand1 .refusal number place (filled ts tokens) (cleared rows) f
+        cases w (found-late {number = number} {place = place} {ts = ts} f) = d .demand1 .refusal number place (filled source ts tokens) (cleared rows) f
         cases w (found-accept {ts = ts} {rs = rs} k room space e) =
             d .demand3 .accepts ts rs k (record {
               for-tokens = room;

@@ -4,7 +4,7 @@ use mathlib.Core.List.{map}
 use Rattle.lexer.specs.Tests.{and, or, among}
 use Rattle.lexer.specs.Spellings.{same}
 use Rattle.lexer.specs.Words.{asName, sameName, twoColons}
-use Rattle.lexer.specs.Table.{tokenRows, filled}
+use Rattle.lexer.specs.Table.{tokenRow, tokenRows, filled}
 use Rattle.lexer.proofs.Laws.Examples.{scans}
 use Rattle.typenames.specs.NameList.{push, split, entries, isIdent, isName, firstBad, checked}
 use Rattle.typenames.specs.TypeNames.{itemOf, items, isNamed, enumName, structName, deeper, namesAt, declared, typeNames}
@@ -22,13 +22,13 @@ use Rattle.grammar.specs.Examples.{lentTokens, lentRows, Example, result
 
 -- the answer, opened down to its parts: whoever computes with it unfolds this one name
 unfoldable pub answersTo : Example → Result
-unfolding and or same asName sameName twoColons tokenRows filled scans push split entries isIdent isName firstBad checked itemOf
+unfolding and or same asName sameName twoColons tokenRow tokenRows filled scans push split entries isIdent isName firstBad checked itemOf
     items isNamed enumName structName deeper namesAt declared typeNames among agrees asked met made passed firstSaid levels
     allows skips starts anyOf emptyWithin firstWithin empty first canBegin canSkip ready find orElse choice onward descend enter
     joined readWithin breadth reading isText runOf fits fitsOne answerTo questions17 productions classOf view treeRows
     placed cleared readTokens judged scannedTokens checkedNames verdict result answered lentTokens lentRows
 answersTo x = answer17 (x .source) (x .names) lentTokens lentRows
 
-pub examples-hold : map answersTo examples ≡ map (λ x. resultOf (x .expected)) examples
+pub examples-hold : map answersTo examples ≡ map (λ x. resultOf (x .source) (x .expected)) examples
 unfolding answersTo resultOf examples
 examples-hold = refl

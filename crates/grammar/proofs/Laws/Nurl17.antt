@@ -3,7 +3,7 @@ use Prim.Native.Nat.{ℕ}
 use mathlib.Core.Path.{_≡_}
 use mathlib.Core.List.{List}
 use Rattle.lexer.specs.Editions.{edition17}
-use Rattle.lexer.specs.Tokens.{Token, clean, scan}
+use Rattle.lexer.specs.Tokens.{Token, cleanly, scan}
 use Rattle.lexer.proofs.Laws.Counts.{spelled17}
 use Rattle.grammar.specs.RowKinds.{programRow, namedTypeRow}
 use Rattle.grammar.specs.Languages.{language17}
@@ -17,7 +17,7 @@ unfoldable pub fit17 : Fit language17
 fit17 = record { marks = spelled17; hints = hints17; tests = passes17; steady = steady17 }
 
 -- the kinds of rows are from 1 to that of a named type, and the program's row is above all others
-pub theorems17 : (source names : List ℕ) (ts : List Token) → scan edition17 source ≡ clean ts
+pub theorems17 : (source names : List ℕ) (ts : List Token) → scan edition17 source ≡ cleanly ts
     → Theorems language17 source names ts namedTypeRow programRow
 unfolding fit17 hints17
 theorems17 = theorems language17 fit17

@@ -7,9 +7,10 @@ use lib.ListN.{length, take, drop, getD}
 use Rattle.lexer.specs.Text.{bytes}
 use Rattle.lexer.specs.Kinds.{ident, keyword, int, colon}
 use Rattle.lexer.specs.Editions.{edition17}
-use Rattle.lexer.specs.Tokens.{Token, clean, scan}
-use Rattle.lexer.specs.Table.{tokenRows, filled, tokensOf}
+use Rattle.lexer.specs.Tokens.{Token, cleanly, scan}
+use Rattle.lexer.specs.Table.{tokenRow, tokenRows, filled}
 use Rattle.lexer.proofs.Laws.Examples.{scans}
+use Rattle.lexer.proofs.Laws.Scans.{found-once}
 use Rattle.grammar.specs.RowKinds.{programRow, functionRow}
 use Rattle.grammar.specs.TreeTable.{treeWidth, placed, cleared}
 use Rattle.grammar.specs.Languages.{language17}
@@ -50,18 +51,18 @@ empty : Acceptance language17 [] [] 200 lentTokens lentRows 0 1
     (answer17 [] [] lentTokens lentRows .tokens) (answer17 [] [] lentTokens lentRows .rows)
 empty = answer17-meets [] [] lentTokens lentRows .demand2 .accepted 0 1 empty-accepted
 
-empty-tokens : scan edition17 [] ≡ clean []
+empty-tokens : scan edition17 [] ≡ cleanly []
 unfolding scans
 empty-tokens = refl
 
-floor-tokens : scan edition17 floor ≡ clean floorTokens
+floor-tokens : scan edition17 floor ≡ cleanly floorTokens
 unfolding scans floor
 floor-tokens = refl
 
 -- one that refuses all violates `accepts`
 abbrev refusesAll : Reader
 refusesAll source names tokens rows =
-    record { answer = Refused 6 0; tokens = filled (tokensOf (scan edition17 source)) tokens; rows = cleared rows }
+    record { answer = Refused 6 0; tokens = filled source (scan edition17 source .found) tokens; rows = cleared rows }
 
 pub refuses-all-violates : MeetsDemands refusesAll → ⊥
 refuses-all-violates meets =
@@ -79,9 +80,7 @@ pub answers-M1-violates : MeetsDemands answersM1 → ⊥
 answers-M1-violates meets =
     let said = meets floor [] lentTokens lentRows .demand2 .accepted 0 1 refl in
     let count = said .token-count in
-    let found = said .readable .scans in
-    let lexed = floor-tokens in
-    let list : said .token-list ≡ floorTokens = cc in
+    let list = found-once (scan edition17 floor) (said .token-list) floorTokens (said .readable .scans) floor-tokens in
     let four : _≡_ {A = ℕ} 0 4 = rw list at count in
     absurd (omega arith)
 
@@ -90,19 +89,17 @@ abbrev neverWrites : Reader
 neverWrites source names tokens rows = record { answer = answer17 source names tokens rows .answer; tokens = tokens; rows = rows }
 
 floor-written : (ts : List Token) → ts ≡ floorTokens
-    → lentTokens ≡ filled ts lentTokens → ⊥
-unfolding filled tokenRows lentTokens
+    → lentTokens ≡ filled floor ts lentTokens → ⊥
+unfolding filled tokenRow tokenRows lentTokens
 floor-written ts list table =
-    let first : getD (filled ts lentTokens) 0 0 ≡ colon = rw list refl in
+    let first : getD (filled floor ts lentTokens) 0 0 ≡ colon = rw list refl in
     let kept = ap (λ (numbers : List ℕ). getD numbers 0 0) table in
     absurd (omega arith)
 
 pub never-writes-violates : MeetsDemands neverWrites → ⊥
 never-writes-violates meets =
     let said = meets floor [] lentTokens lentRows .demand2 .accepted 4 4 floor-accepted in
-    let found = said .readable .scans in
-    let lexed = floor-tokens in
-    let list : said .token-list ≡ floorTokens = cc in
+    let list = found-once (scan edition17 floor) (said .token-list) floorTokens (said .readable .scans) floor-tokens in
     floor-written (said .token-list) list (said .token-table)
 
 -- one that reads the first declaration and invents the others, here by leaving them out, violates `accepted`, by its rows
@@ -143,9 +140,7 @@ pub invents-tokens-violates : MeetsDemands (inventsCounts suc (λ n. n)) → ⊥
 invents-tokens-violates meets =
     let said = meets [] [] lentTokens lentRows .demand2 .accepted 1 1 (rw empty-accepted refl) in
     let count = said .token-count in
-    let found = said .readable .scans in
-    let lexed = empty-tokens in
-    let list : said .token-list ≡ [] = cc in
+    let list = found-once (scan edition17 []) (said .token-list) [] (said .readable .scans) empty-tokens in
     let none : _≡_ {A = ℕ} 1 0 = rw list at count in
     absurd (omega arith)
 

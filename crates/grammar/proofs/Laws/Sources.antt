@@ -5,7 +5,7 @@ use mathlib.Core.Path.{_≡_}
 use mathlib.Core.Bool.{true}
 use mathlib.Core.List.{List, [], _∷_}
 use lib.ListN.{length}
-use Rattle.lexer.specs.Tokens.{Token, clean, scan}
+use Rattle.lexer.specs.Tokens.{Token, cleanly, scan}
 use Rattle.lexer.proofs.Laws.Sizes.{spelled}
 use Rattle.lexer.proofs.Laws.Places.{tokens-placed}
 use Rattle.typenames.specs.TypeNames.{Item, items}
@@ -78,7 +78,7 @@ module _ (l : Language) (source names : List ℕ) (ts : List Token) where
     pub top : (n : ℕ) (rs : List Row) → DerivationOf l source names ts n rs → Top topKind (length ts) n rs
 
 -- a language that is fit has them
-module _ (l : Language) (fit : Fit l) (source names : List ℕ) (ts : List Token) (scans : scan (l .lexical) source ≡ clean ts) where
+module _ (l : Language) (fit : Fit l) (source names : List ℕ) (ts : List Token) (scans : scan (l .lexical) source ≡ cleanly ts) where
   abbrev g : List Production
   g = l .productions
 

@@ -9,8 +9,8 @@ use lib.ListN.{length}
 use borrow.Author.Tests.{le-leb, lt-leb, ltb-false}
 use Rattle.lexer.specs.Tests.{pick}
 use Rattle.lexer.specs.Editions.{Edition}
-use Rattle.lexer.specs.Tokens.{Scan, clean, fault, scan}
-use Rattle.lexer.specs.Table.{sourceLimit, tokenRoom, filled, tokensOf, scanned, counted, withRoom, tokenized, afterAnswer}
+use Rattle.lexer.specs.Tokens.{Ending, clean, fault, scan}
+use Rattle.lexer.specs.Table.{sourceLimit, tokenRoom, filled, endedWith, scanned, counted, withRoom, tokenized, afterAnswer}
 use Rattle.lexer.specs.Table.{tableAfter}
 use Rattle.lexer.specs.declared.Scanned.{Scanned}
 use Rattle.lexer.specs.declared.Scanned.the-variants.{Tokens, Refused}
@@ -27,21 +27,22 @@ pub record Answered (e : Edition) (s table : List ℕ) (answer : Scanned) (after
 -- what a count tells of the source
 pub record Clean (e : Edition) (s : List ℕ) (n : ℕ) : Type 0 where
   pub short : length s ≤ sourceLimit
-  pub all : scan e s ≡ clean (tokensOf (scan e s))
-  pub count : length (tokensOf (scan e s)) ≡ n
+  pub ends : scan e s .ending ≡ clean
+  pub count : length (scan e s .found) ≡ n
 
-clean-scan : (x : Scan) (n : ℕ) → scanned x ≡ Tokens n → (x ≡ clean (tokensOf x)) × (length (tokensOf x) ≡ n)
-unfolding scanned tokensOf
-clean-scan (clean ts) n h = (refl, cc)
-clean-scan (fault number place) n h = let z : _≡_ {A = ℕ} 0 1 = cc in absurd (omega arith)
+clean-ending : (m n : ℕ) (x : Ending) → endedWith m x ≡ Tokens n → (x ≡ clean) × (m ≡ n)
+unfolding endedWith
+clean-ending m n clean h = (refl, cc)
+clean-ending m n (fault number place) h = let z : _≡_ {A = ℕ} 0 1 = cc in absurd (omega arith)
 
 module _ (e : Edition) (s : List ℕ) where
   counted-by : (n : ℕ) (t : Bool) → ltb sourceLimit (length s) ≡ t
       → pick t (Refused 1 0) (scanned (scan e s)) ≡ Tokens n → Clean e s n
+  unfolding scanned
   counted-by n true q h = let z : _≡_ {A = ℕ} 0 1 = cc in absurd (omega arith)
   counted-by n false q h =
-      let c = clean-scan (scan e s) n h in
-      record { short = ltb-false _ _ q; all = c .0; count = c .1 }
+      let c = clean-ending (length (scan e s .found)) n (scan e s .ending) h in
+      record { short = ltb-false _ _ q; ends = c .0; count = c .1 }
 
   pub clean-count : (n : ℕ) → counted e s ≡ Tokens n → Clean e s n
   unfolding counted
@@ -58,6 +59,6 @@ module _ (e : Edition) (s : List ℕ) where
     answer-full n h full = record { says = rw (h, lt-leb _ _ full); leaves = rw (h, lt-leb _ _ full) }
 
     pub answer-tokens : (n : ℕ) → counted e s ≡ Tokens n → n ≤ tokenRoom table
-        → Answered e s table (Tokens n) (filled (tokensOf (scan e s)) table)
+        → Answered e s table (Tokens n) (filled s (scan e s .found) table)
     unfolding tokenized withRoom tableAfter afterAnswer
     answer-tokens n h fits = record { says = rw (h, le-leb _ _ fits); leaves = rw (h, le-leb _ _ fits) }

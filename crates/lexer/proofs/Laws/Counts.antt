@@ -1,5 +1,5 @@
 -- Counting the tokens of a source, lexeme by lexeme, for edition 1.7. Assumes nothing.
-use Prim.Native.Nat.{ℕ, _+_, _<_, _≤_}
+use Prim.Native.Nat.{ℕ, suc, _+_, _<_, _≤_}
 use mathlib.Core.Path.{_≡_, refl, _∙_, ap}
 use mathlib.Core.Bool.{true}
 use mathlib.Core.List.{List}
@@ -10,8 +10,8 @@ use Rattle.lexer.specs.Tests.{and}
 use Rattle.lexer.specs.Spellings.{commonMarks, shiftMarks}
 use Rattle.lexer.specs.Editions.{edition17}
 use Rattle.lexer.specs.Lexemes.{lexeme}
-use Rattle.lexer.specs.Tokens.{Token, Scan, clean, fault, withToken, scan}
-use Rattle.lexer.specs.Table.{scanned}
+use Rattle.lexer.specs.Tokens.{Token, Ending, clean, fault, Scan, withToken, scan}
+use Rattle.lexer.specs.Table.{endedWith, scanned}
 use Rattle.lexer.specs.declared.Lexeme.{Lexeme}
 use Rattle.lexer.specs.declared.Lexeme.the-variants.{End, Skipped, BadByte, OpenString}
 use Rattle.lexer.specs.declared.Scanned.{Scanned}
@@ -34,10 +34,14 @@ unfolding plus
 plus-none (Tokens m) = ap (λ (k : ℕ). Tokens k) (zero-add m)
 plus-none (Refused number place) = refl
 
+ended-one : (n m : ℕ) (x : Ending) → plus n (endedWith (suc m) x) ≡ plus (n + 1) (endedWith m x)
+unfolding plus endedWith
+ended-one n m clean = ap (λ (k : ℕ). Tokens k) (omega arith)
+ended-one n m (fault number place) = refl
+
 plus-one : (n : ℕ) (t : Token) (x : Scan) → plus n (scanned (withToken t x)) ≡ plus (n + 1) (scanned x)
-unfolding plus scanned withToken
-plus-one n t (clean ts) = ap (λ (k : ℕ). Tokens k) (omega arith)
-plus-one n t (fault number place) = refl
+unfolding scanned withToken
+plus-one n t x = ended-one n (length (x .found)) (x .ending)
 
 -- what the count is from a place on, after n tokens
 abbrev pub Counted : List ℕ → ℕ → ℕ → Type 0
@@ -59,7 +63,7 @@ module _ (s : List ℕ) (at : ℕ) where
 
   module _ (n : ℕ) (so-far : Counted s at n) where
     pub count-end : lexeme edition17 (drop at s) ≡ End → scanned (scan edition17 s) ≡ Tokens n
-    unfolding scanned plus
+    unfolding scanned endedWith plus
     count-end h = so-far ∙ rw (scan-end edition17 spelled17 s at h, add-zero)
 
     pub count-skip : (k : ℕ) → lexeme edition17 (drop at s) ≡ Skipped k → Counted s (at + k) n
@@ -69,9 +73,9 @@ module _ (s : List ℕ) (at : ℕ) where
     count-token k m h = so-far ∙ rw (scan-token edition17 spelled17 s at k m h) (plus-one n _ _)
 
     pub count-bad : lexeme edition17 (drop at s) ≡ BadByte → scanned (scan edition17 s) ≡ Refused 3 at
-    unfolding scanned plus
+    unfolding scanned endedWith plus
     count-bad h = so-far ∙ rw (scan-bad edition17 spelled17 s at h)
 
     pub count-open : lexeme edition17 (drop at s) ≡ OpenString → scanned (scan edition17 s) ≡ Refused 4 at
-    unfolding scanned plus
+    unfolding scanned endedWith plus
     count-open h = so-far ∙ rw (scan-open edition17 spelled17 s at h)

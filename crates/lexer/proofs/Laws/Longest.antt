@@ -18,7 +18,7 @@ use Rattle.lexer.specs.Editions.{Edition, edition17}
 use Rattle.lexer.specs.Words.{wordLength}
 use Rattle.lexer.specs.Lexemes.{skippedSpaces, spaces, comment, wordOf, word, numberOf, unsignedNumber, withMinus}
 use Rattle.lexer.specs.Lexemes.{number, text, markOf, markUpTo, mark, orElse, lexeme}
-use Rattle.lexer.specs.Tokens.{size}
+use Rattle.lexer.specs.Tokens.{lexemeSize}
 use Rattle.lexer.specs.declared.Lexeme.{Lexeme}
 use Rattle.lexer.specs.declared.Lexeme.the-variants.{End, Skipped, Token, BadByte, OpenString}
 use Rattle.lexer.proofs.Laws.Lexemes.{no-spaces, no-comment, no-word, no-digits, no-text}
@@ -45,12 +45,12 @@ separate (m ∷ ms) = and (ownMark (m .text)) (separate ms)
 
 -- no rule gives a longer lexeme than the one chosen
 pub record Longest (e : Edition) (s : List ℕ) : Type 0 where
-  pub over-spaces : size (spaces s) ≤ size (lexeme e s)
-  pub over-comment : size (comment s) ≤ size (lexeme e s)
-  pub over-word : size (word s) ≤ size (lexeme e s)
-  pub over-number : size (number e s) ≤ size (lexeme e s)
-  pub over-text : size (text s) ≤ size (lexeme e s)
-  pub over-mark : size (mark e s) ≤ size (lexeme e s)
+  pub over-spaces : lexemeSize (spaces s) ≤ lexemeSize (lexeme e s)
+  pub over-comment : lexemeSize (comment s) ≤ lexemeSize (lexeme e s)
+  pub over-word : lexemeSize (word s) ≤ lexemeSize (lexeme e s)
+  pub over-number : lexemeSize (number e s) ≤ lexemeSize (lexeme e s)
+  pub over-text : lexemeSize (text s) ≤ lexemeSize (lexeme e s)
+  pub over-mark : lexemeSize (mark e s) ≤ lexemeSize (lexeme e s)
 
 -- whether a rule fits
 abbrev fits : Lexeme → Bool
@@ -67,15 +67,15 @@ fits-by l false h f = sym (ap fits (h refl)) ∙ f
 
 -- one lexeme takes no more bytes than another
 record Under (m l : Lexeme) : Type 0 where
-  under : size m ≤ size l
+  under : lexemeSize m ≤ lexemeSize l
 
 -- where one rule fits, another gives nothing longer
 record Ahead (l m : Lexeme) : Type 0 where
-  ahead : fits l ≡ true → size m ≤ size l
+  ahead : fits l ≡ true → lexemeSize m ≤ lexemeSize l
 
 -- a choice takes as many bytes as its first rule, and as many as any rule that is no longer than either part
 first-of-two : (l m : Lexeme) → Under l (orElse l m)
-unfolding orElse size
+unfolding orElse lexemeSize
 first-of-two End m = record { under = zero-le }
 first-of-two (Skipped n) m = record { under = le-refl n }
 first-of-two (Token k n) m = record { under = le-refl n }
@@ -92,7 +92,7 @@ later {l = OpenString} a below = record { under = a .ahead refl }
 
 -- two rules that never both fit
 never-both : (l m : Lexeme) → (fits l ≡ true → fits m ≡ true → ⊥) → Ahead l m
-unfolding size
+unfolding lexemeSize
 never-both l End h = record { ahead = λ f. zero-le }
 never-both l (Skipped n) h = record { ahead = λ f. absurd (h f refl) }
 never-both l (Token k n) h = record { ahead = λ f. absurd (h f refl) }
@@ -134,20 +134,20 @@ module _ (b : ℕ) (t : List ℕ) where
   fits-comment = fits-by _ (eqb b (code "/")) (no-comment b t)
 
   -- a comment has two bytes at least
-  comment-long : fits (comment (b ∷ t)) ≡ true → 2 ≤ size (comment (b ∷ t))
-  unfolding comment size
+  comment-long : fits (comment (b ∷ t)) ≡ true → 2 ≤ lexemeSize (comment (b ∷ t))
+  unfolding comment lexemeSize
   comment-long = either (and (begins (code "/") (b ∷ t)) (begins (code "/") t))
     where
       found : Lexeme
       found = Skipped (2 + run isInLine (drop 1 t))
 
-      either : (q : Bool) → fits (pick q found BadByte) ≡ true → 2 ≤ size (pick q found BadByte)
+      either : (q : Bool) → fits (pick q found BadByte) ≡ true → 2 ≤ lexemeSize (pick q found BadByte)
       either true f = omega arith
       either false f = let z : _≡_ {A = ℕ} 0 1 = cc in absurd (omega arith)
 
 -- a number that begins with `-` has two bytes at least
-minus-long : (s : List ℕ) (l : Lexeme) → Proper s l → fits (withMinus l) ≡ true → 2 ≤ size (withMinus l)
-unfolding withMinus size
+minus-long : (s : List ℕ) (l : Lexeme) → Proper s l → fits (withMinus l) ≡ true → 2 ≤ lexemeSize (withMinus l)
+unfolding withMinus lexemeSize
 minus-long s End p f = let z : _≡_ {A = ℕ} 0 1 = cc in absurd (omega arith)
 minus-long s (Skipped n) p f = let z : _≡_ {A = ℕ} 0 1 = cc in absurd (omega arith)
 minus-long s (Token k n) p f = let q = of-token p in omega arith
@@ -157,7 +157,7 @@ minus-long s OpenString p f = let z : _≡_ {A = ℕ} 0 1 = cc in absurd (omega 
 -- a number begins with a digit or with `-`
 data Numeral (b : ℕ) (l : Lexeme) : Type 0 where
   plain : isDigit b ≡ true → Numeral b l
-  negative : eqb b (code "-") ≡ true → 2 ≤ size l → Numeral b l
+  negative : eqb b (code "-") ≡ true → 2 ≤ lexemeSize l → Numeral b l
 
 begins-one : (a b : ℕ) (t : List ℕ) → begins a (b ∷ t) ≡ true → eqb b a ≡ true
 unfolding beginsEither
@@ -205,8 +205,8 @@ no-mark (m ∷ ms) own w h =
         absurd (omega arith)
     either false e here below = below
 
-mark-within : (bound k n : ℕ) (other : Lexeme) → (bound < n → k ≡ 0) → size other ≤ bound → size (markOf k n other) ≤ bound
-unfolding markOf size
+mark-within : (bound k n : ℕ) (other : Lexeme) → (bound < n → k ≡ 0) → lexemeSize other ≤ bound → lexemeSize (markOf k n other) ≤ bound
+unfolding markOf lexemeSize
 mark-within bound zero n other h below = below
 mark-within bound (suc k) n other h below = either (ltb bound n) refl
   where
@@ -217,8 +217,8 @@ mark-within bound (suc k) n other h below = either (ltb bound n) refl
 -- no mark is longer than so many bytes where none that begins with this byte has more
 module _ (ms : List Spelling) (own : separate ms ≡ true) where
   module _ (b bound : ℕ) (past : (w : List ℕ) → bound ≤ length w → ownMark (b ∷ w) ≡ false) where
-    marks-within : (n : ℕ) (t : List ℕ) → size (markUpTo ms n (b ∷ t)) ≤ bound
-    unfolding markUpTo size
+    marks-within : (n : ℕ) (t : List ℕ) → lexemeSize (markUpTo ms n (b ∷ t)) ≤ bound
+    unfolding markUpTo lexemeSize
     marks-within zero t = zero-le
     marks-within (suc n) t =
         let w = take n t in
@@ -314,11 +314,11 @@ module _ (e : Edition) (own : separate (e .marks) ≡ true) (b : ℕ) (t : List 
   text-after-number = never-both _ _ (λ f g. let l = from-number f in let h = from-text g in omega arith)
 
   -- no mark begins with a byte that is taken, and none of two bytes with one that is shared
-  mark-taken : taken b ≡ true → (n : ℕ) → size (mark e (b ∷ t)) ≤ n
+  mark-taken : taken b ≡ true → (n : ℕ) → lexemeSize (mark e (b ∷ t)) ≤ n
   unfolding mark
   mark-taken h n = le-trans (marks-within (e .marks) own b 0 (λ w l. not-own-taken b h w) (longest (e .marks)) t) zero-le
 
-  mark-shared : shared b ≡ true → size (mark e (b ∷ t)) ≤ 1
+  mark-shared : shared b ≡ true → lexemeSize (mark e (b ∷ t)) ≤ 1
   unfolding mark
   mark-shared h = marks-within (e .marks) own b 1 (not-own-shared b h) (longest (e .marks)) t
 
@@ -336,7 +336,7 @@ module _ (e : Edition) (own : separate (e .marks) ≡ true) (b : ℕ) (t : List 
   mark-after-word : Ahead (word (b ∷ t)) (mark e (b ∷ t))
   mark-after-word = record { ahead = λ f. mark-taken (taken-letter b (fits-word b t f)) _ }
 
-  mark-after-numeral : (l : Lexeme) → Numeral b l → size (mark e (b ∷ t)) ≤ size l
+  mark-after-numeral : (l : Lexeme) → Numeral b l → lexemeSize (mark e (b ∷ t)) ≤ lexemeSize l
   mark-after-numeral l (plain h) = mark-taken (taken-digit b h) _
   mark-after-numeral l (negative h long) = let short = mark-shared (shared-minus b h) in omega arith
 
@@ -370,13 +370,13 @@ module _ (e : Edition) (own : separate (e .marks) ≡ true) (b : ℕ) (t : List 
       }
 
 -- where no byte is left, no rule gives one
-marks-nil : (ms : List Spelling) (n : ℕ) → size (markUpTo ms n []) ≤ 0
-unfolding markUpTo size
+marks-nil : (ms : List Spelling) (n : ℕ) → lexemeSize (markUpTo ms n []) ≤ 0
+unfolding markUpTo lexemeSize
 marks-nil ms zero = zero-le
 marks-nil ms (suc n) = mark-within 0 (kindOf ms []) 0 (markUpTo ms n []) (λ l. absurd (omega arith)) (marks-nil ms n)
 
 longest-nil : (e : Edition) → Longest e []
-unfolding size spaces skippedSpaces run comment and beginsEither word wordOf wordLength number unsignedNumber numberOf text mark
+unfolding lexemeSize spaces skippedSpaces run comment and beginsEither word wordOf wordLength number unsignedNumber numberOf text mark
 longest-nil e = record {
   over-spaces = zero-le;
   over-comment = zero-le;

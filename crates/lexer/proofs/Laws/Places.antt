@@ -11,7 +11,7 @@ use lib.ListN.{length, drop, length-drop, drop-of-length-le}
 use Rattle.lexer.specs.Kinds.{firstKind, lastKind}
 use Rattle.lexer.specs.Editions.{Edition}
 use Rattle.lexer.specs.Lexemes.{lexeme}
-use Rattle.lexer.specs.Tokens.{Token, Scan, clean, fault, withToken, scan}
+use Rattle.lexer.specs.Tokens.{Token, Ending, clean, fault, Scan, cleanly, withToken, scan}
 use Rattle.lexer.specs.declared.Lexeme.{Lexeme}
 use Rattle.lexer.specs.declared.Lexeme.the-variants.{End, Skipped, BadByte, OpenString}
 use Rattle.lexer.proofs.Laws.Sizes.{of-token, of-skip, spelled, proper}
@@ -19,8 +19,8 @@ use Rattle.lexer.proofs.Laws.Scans.{scanFrom, scan-from-start, scan-end
 
 -- a token of a source: it takes a byte at least, it ends inside the source, and its kind is one of the kinds
 pub record Inside (s : List ℕ) (t : Token) : Type 0 where
-  pub some : 0 < t .length
-  pub within : t .start + t .length ≤ length s
+  pub some : 0 < t .size
+  pub within : t .start + t .size ≤ length s
   pub low : firstKind ≤ t .kind
   pub high : t .kind ≤ lastKind
 
@@ -28,8 +28,8 @@ pub record Inside (s : List ℕ) (t : Token) : Type 0 where
 pub data Placed (e : Edition) (s : List ℕ) : ℕ → List Token → Type 0 where
   placed-none : {lo : ℕ} → lo ≤ length s → Placed e s lo []
   placed-more : {lo : ℕ} {t : Token} {ts : List Token} → lo ≤ t .start
-      → lexeme e (drop (t .start) s) ≡ Lexeme.Token (t .kind) (t .length) → Inside s t
-      → Placed e s (t .start + t .length) ts → Placed e s lo (t ∷ ts)
+      → lexeme e (drop (t .start) s) ≡ Lexeme.Token (t .kind) (t .size) → Inside s t
+      → Placed e s (t .start + t .size) ts → Placed e s lo (t ∷ ts)
 
 -- the fault of a source: a bad byte or an open string inside it
 pub record Faulty (e : Edition) (s : List ℕ) (number place : ℕ) : Type 0 where
@@ -44,20 +44,23 @@ placed-few : {e : Edition} {s : List ℕ} {lo : ℕ} {ts : List Token} → Place
 placed-few (placed-none w) = omega arith
 placed-few (placed-more l x f r) = let m = placed-few r in omega arith
 
--- what a source is from a place on: tokens in their places, or a fault
-abbrev Stands : Edition → List ℕ → ℕ → Scan → Type 0
-Stands e s at (clean ts) = Placed e s at ts
-Stands e s at (fault number place) = Faulty e s number place
+-- how a source ends: clean, or with a fault that is one
+abbrev Ends : Edition → List ℕ → Ending → Type 0
+Ends e s clean = Unit
+Ends e s (fault number place) = Faulty e s number place
+
+-- what a source is from a place on: tokens in their places, and an ending
+record Stands (e : Edition) (s : List ℕ) (at : ℕ) (x : Scan) : Type 0 where
+  placed : Placed e s at (x .found)
+  ends : Ends e s (x .ending)
 
 stands-earlier : (e : Edition) (s : List ℕ) (lo hi : ℕ) (x : Scan) → lo ≤ hi → Stands e s hi x → Stands e s lo x
-stands-earlier e s lo hi (clean ts) h p = placed-earlier h p
-stands-earlier e s lo hi (fault number place) h p = p
+stands-earlier e s lo hi x h p = record { placed = placed-earlier h (p .placed); ends = p .ends }
 
-stands-token : (e : Edition) (s : List ℕ) (t : Token) (x : Scan) → lexeme e (drop (t .start) s) ≡ Lexeme.Token (t .kind) (t .length)
-    → Inside s t → Stands e s (t .start + t .length) x → Stands e s (t .start) (withToken t x)
+stands-token : (e : Edition) (s : List ℕ) (t : Token) (x : Scan) → lexeme e (drop (t .start) s) ≡ Lexeme.Token (t .kind) (t .size)
+    → Inside s t → Stands e s (t .start + t .size) x → Stands e s (t .start) (withToken t x)
 unfolding withToken
-stands-token e s t (clean ts) l f p = placed-more (le-refl (t .start)) l f p
-stands-token e s t (fault number place) l f p = p
+stands-token e s t x l f p = record { placed = placed-more (le-refl (t .start)) l f (p .placed); ends = p .ends }
 
 -- past the last byte there is nothing, so that a place where something stands is inside the source
 past : (e : Edition) (s : List ℕ) (at : ℕ) → length s ≤ at → lexeme e (drop at s) ≡ End
@@ -70,11 +73,14 @@ inside-by e s at upto h =
     omega arith
 
 module _ (e : Edition) (good : spelled (e .marks) ≡ true) (s : List ℕ) where
+  none-left : (at : ℕ) → at ≤ length s → Stands e s at (cleanly [])
+  none-left at upto = record { placed = placed-none upto; ends = tt }
+
   -- the lexeme at a place, and what is so after it
   stands-by : (n at : ℕ) → length s ≤ suc n + at → at ≤ length s
       → ((to : ℕ) → length s ≤ n + to → to ≤ length s → Stands e s to (scanFrom e s to))
       → (l : Lexeme) → lexeme e (drop at s) ≡ l → Stands e s at (scanFrom e s at)
-  stands-by n at near upto after End h = rw (scan-end e good s at h) (placed-none upto)
+  stands-by n at near upto after End h = rw (scan-end e good s at h) (none-left at upto)
   stands-by n at near upto after (Skipped m) h =
       let p = of-skip (rw h at (proper e good (drop at s))) in
       let l = length-drop at s in
@@ -83,32 +89,32 @@ module _ (e : Edition) (good : spelled (e .marks) ≡ true) (s : List ℕ) where
   stands-by n at near upto after (Lexeme.Token k m) h =
       let p = of-token (rw h at (proper e good (drop at s))) in
       let l = length-drop at s in
-      let t : Token = record { kind = k; start = at; length = m } in
+      let t : Token = record { kind = k; start = at; size = m } in
       let f : Inside s t = record { some = p .some; within = omega arith; low = p .low; high = p .high } in
       let rest = after (at + m) (omega arith) (omega arith) in
       rw (scan-token e good s at k m h) (stands-token e s t (scanFrom e s (at + m)) h f rest)
   stands-by n at near upto after BadByte h =
       let still = inside-by e s at upto (λ (q : lexeme e (drop at s) ≡ End). let z : _≡_ {A = ℕ} 0 1 = cc in omega arith) in
-      rw (scan-bad e good s at h) (record { inside = still; reason = inl (refl, h) })
+      rw (scan-bad e good s at h) (record { placed = placed-none upto; ends = record { inside = still; reason = inl (refl, h) } })
   stands-by n at near upto after OpenString h =
       let still = inside-by e s at upto (λ (q : lexeme e (drop at s) ≡ End). let z : _≡_ {A = ℕ} 0 1 = cc in omega arith) in
-      rw (scan-open e good s at h) (record { inside = still; reason = inr (refl, h) })
+      rw (scan-open e good s at h) (record { placed = placed-none upto; ends = record { inside = still; reason = inr (refl, h) } })
 
   -- from any place on, where at most n bytes are left
   stands-from : (n at : ℕ) → length s ≤ n + at → at ≤ length s → Stands e s at (scanFrom e s at)
   stands-from zero at near upto =
       let done : length s ≤ at = omega arith in
-      rw (scan-end e good s at (past e s at done)) (placed-none upto)
+      rw (scan-end e good s at (past e s at done)) (none-left at upto)
   stands-from (suc n) at near upto = stands-by n at near upto (stands-from n) (lexeme e (drop at s)) refl
 
   stands : Stands e s 0 (scan e s)
   stands = rw (← scan-from-start e s) (stands-from (length s) 0 (omega arith) (omega arith))
 
-  pub tokens-placed : (ts : List Token) → scan e s ≡ clean ts → Placed e s 0 ts
-  tokens-placed ts h = rw h at stands
+  pub tokens-placed : (ts : List Token) → scan e s ≡ cleanly ts → Placed e s 0 ts
+  tokens-placed ts h = rw h at (stands .placed)
 
-  pub tokens-few : (ts : List Token) → scan e s ≡ clean ts → length ts ≤ length s
+  pub tokens-few : (ts : List Token) → scan e s ≡ cleanly ts → length ts ≤ length s
   tokens-few ts h = let m = placed-few (tokens-placed ts h) in omega arith
 
-  pub fault-placed : (number place : ℕ) → scan e s ≡ fault number place → Faulty e s number place
-  fault-placed number place h = rw h at stands
+  pub fault-placed : (number place : ℕ) → scan e s .ending ≡ fault number place → Faulty e s number place
+  fault-placed number place h = rw h at (stands .ends)

@@ -2,56 +2,78 @@
 -- Assumes nothing.
 use Prim.Native.Nat.{ℕ, zero, suc, _+_, _*_, _<_, _≤_}
 use mathlib.Core.Path.{_≡_, refl, _∙_, ap}
-use mathlib.Core.List.{List, [], _∷_, _++_, append-assoc}
+use mathlib.Core.List.{List, [], _∷_, _++_, append-nil, append-assoc}
 use native.Mathlib.Omega.{arith}
 use lib.ListN.{length, take, drop, getD, length-append, length-drop, List·getD-append, List·getD-eq-default}
-use lib.Seq.{sets, sets-eq, take-at, drop-drop, drop-append-add}
+use lib.Seq.{sets, sets-eq, take-at, take-all, drop-drop, drop-append-add}
 use Rattle.lexer.specs.Tokens.{Token}
-use Rattle.lexer.specs.Table.{tokenWidth, tokenRoom, tokenRow, tokenRows, filled, rowsOf, noToken, rowAt}
+use Rattle.lexer.specs.Table.{tokenWidth, tokenRoom, tokenRow, tokenRows, filled, kept, rowsOf, noToken, rowAt}
+use Rattle.lexer.specs.Leaves.{rowNumbers, ownNumbers}
 
-pub rows-length : (ts : List Token) → length (tokenRows ts) ≡ length ts * tokenWidth
+row-length : (source : List ℕ) (t : Token) → length (tokenRow source t) ≡ tokenWidth
+unfolding tokenRow
+row-length source t = refl
+
+-- the row that is written for a token is the token's row
+pub row-written : (source : List ℕ) (kind start size : ℕ)
+    → rowNumbers (record { kind = kind; start = start; size = size }) ≡ tokenRow source (record { kind = kind; start = start; size = size })
+unfolding tokenRow
+row-written source kind start size = refl
+
+pub rows-length : (source : List ℕ) (ts : List Token) → length (tokenRows source ts) ≡ length ts * tokenWidth
 unfolding tokenRows
-rows-length [] = refl
-rows-length (t ∷ ts) = let e = rows-length ts in omega arith
-
-pub rows-append : (ts us : List Token) → tokenRows (ts ++ us) ≡ tokenRows ts ++ tokenRows us
-unfolding tokenRows
-rows-append [] us = refl
-rows-append (t ∷ ts) us = rw (rows-append ts us)
-
--- nothing is filled yet
-pub filled-none : (table : List ℕ) → filled [] table ≡ table
-unfolding filled tokenRows
-filled-none table = refl
-
-pub filled-length : (ts : List Token) (table : List ℕ) → length ts * tokenWidth ≤ length table → length (filled ts table) ≡ length table
-unfolding filled
-filled-length ts table h =
-    let r = rows-length ts in
-    let d = length-drop (length ts * tokenWidth) table in
-    let a = length-append (tokenRows ts) (drop (length ts * tokenWidth) table) in
+rows-length source [] = refl
+rows-length source (t ∷ ts) =
+    let e = rows-length source ts in
+    let r = row-length source t in
+    let a = length-append (tokenRow source t) (tokenRows source ts) in
     omega arith
 
+pub rows-append : (source : List ℕ) (ts us : List Token) → tokenRows source (ts ++ us) ≡ tokenRows source ts ++ tokenRows source us
+unfolding tokenRows
+rows-append source [] us = refl
+rows-append source (t ∷ ts) us = rw (rows-append source ts us, append-assoc)
+
+-- nothing is filled yet
+pub filled-none : (source table : List ℕ) → filled source [] table ≡ table
+unfolding filled tokenRows
+filled-none source table = refl
+
+pub filled-length : (source : List ℕ) (ts : List Token) (table : List ℕ) → length ts * tokenWidth ≤ length table
+    → length (filled source ts table) ≡ length table
+unfolding filled
+filled-length source ts table h =
+    let r = rows-length source ts in
+    let d = length-drop (length ts * tokenWidth) table in
+    let a = length-append (tokenRows source ts) (drop (length ts * tokenWidth) table) in
+    omega arith
+
+-- where all tokens fit, all are kept
+pub kept-all : (source : List ℕ) (ts : List Token) (table : List ℕ) → length ts ≤ tokenRoom table
+    → kept source ts table ≡ filled source ts table
+unfolding kept
+kept-all source ts table fits = rw (take-all (tokenRoom table) ts fits)
+
 -- one row more
-module _ (ts : List Token) (t : Token) (table : List ℕ) where
-  last-row : drop (length ts * tokenWidth + tokenWidth) (filled ts table) ≡ drop (length ts * tokenWidth + tokenWidth) table
+module _ (source : List ℕ) (ts : List Token) (t : Token) (table : List ℕ) where
+  last-row : drop (length ts * tokenWidth + tokenWidth) (filled source ts table) ≡ drop (length ts * tokenWidth + tokenWidth) table
   unfolding filled
   last-row =
-      let n = length ts * tokenWidth in
-      rw (← rows-length ts) (drop-append-add (tokenRows ts) (drop (length (tokenRows ts)) table) tokenWidth
-      ∙ drop-drop tokenWidth (length (tokenRows ts)) table)
+      let rows = tokenRows source ts in
+      rw (← rows-length source ts) (drop-append-add rows (drop (length rows) table) tokenWidth ∙ drop-drop tokenWidth (length rows) table)
 
   more-rows : length (ts ++ (t ∷ [])) * tokenWidth ≡ length ts * tokenWidth + tokenWidth
   more-rows = let l = length-append ts (t ∷ []) in omega arith
 
   pub filled-more : (length ts + 1) * tokenWidth ≤ length table
-      → sets (filled ts table) (length ts * tokenWidth) (t .kind ∷ t .start ∷ t .length ∷ []) ≡ filled (ts ++ (t ∷ [])) table
+      → sets (filled source ts table) (length ts * tokenWidth) (tokenRow source t) ≡ filled source (ts ++ (t ∷ [])) table
   unfolding filled tokenRows
   filled-more room =
       let n = length ts * tokenWidth in
-      let l = filled-length ts table (omega arith) in
-      sets-eq (t .kind ∷ t .start ∷ t .length ∷ []) (filled ts table) n (omega arith)
-      ∙ rw (last-row, take-at (tokenRows ts) (drop n table) n (rows-length ts), more-rows, rows-append, append-assoc)
+      let l = filled-length source ts table (omega arith) in
+      let r = row-length source t in
+      sets-eq (tokenRow source t) (filled source ts table) n (omega arith)
+      ∙ rw (r, last-row, take-at (tokenRows source ts) (drop n table) n (rows-length source ts), more-rows, rows-append, append-nil, append-assoc)
 
 -- as many rows as there is room for
 pub rows-of-length : (table : List ℕ) → length (rowsOf table) ≡ tokenRoom table
@@ -63,7 +85,7 @@ rows-of-length (k ∷ s ∷ n ∷ table) = let below = rows-of-length table in o
 
 -- the number at a place of the table, in the row that stands there
 row-number-by : (table : List ℕ) (row column : ℕ) → row < tokenRoom table → column < tokenWidth
-    → getD table (row * tokenWidth + column) 0 ≡ getD (tokenRow (getD (rowsOf table) row noToken)) column 0
+    → getD table (row * tokenWidth + column) 0 ≡ getD (ownNumbers (getD (rowsOf table) row noToken)) column 0
 unfolding rowsOf
 row-number-by [] row column h w = absurd (omega arith)
 row-number-by (k ∷ []) row column h w = absurd (omega arith)
@@ -78,40 +100,43 @@ row-number-by (k ∷ s ∷ n ∷ table) (suc row) column h w =
 
 module _ (table : List ℕ) (row column : ℕ) (w : column < tokenWidth) where
   pub row-number : row < tokenRoom table
-      → getD table (row * tokenWidth + column) 0 ≡ getD (tokenRow (rowAt table row)) column 0
+      → getD table (row * tokenWidth + column) 0 ≡ getD (ownNumbers (rowAt table row)) column 0
   unfolding rowAt
   row-number h = row-number-by table row column h w
 
-  pub no-row : tokenRoom table ≤ row → getD (tokenRow (rowAt table row)) column 0 ≡ 0
+  pub no-row : tokenRoom table ≤ row → getD (ownNumbers (rowAt table row)) column 0 ≡ 0
   unfolding rowAt
   no-row h =
       let l = rows-of-length table in
       let none : rowAt table row ≡ noToken = List·getD-eq-default (rowsOf table) noToken {n = row} (omega arith) in
-      ap (λ (t : Token). getD (tokenRow t) column 0) none ∙ zeros column
+      ap (λ (t : Token). getD (ownNumbers t) column 0) none ∙ zeros column
     where
-      zeros : (k : ℕ) → getD (tokenRow noToken) k 0 ≡ 0
+      zeros : (k : ℕ) → getD (ownNumbers noToken) k 0 ≡ 0
       zeros zero = refl
       zeros (suc zero) = refl
       zeros (suc (suc zero)) = refl
       zeros (suc (suc (suc k))) = refl
 
 -- the rows of a filled table begin with the tokens, so that a leaf finds the token of its row
-rows-of-rows : (ts : List Token) (rest : List ℕ) → rowsOf (tokenRows ts ++ rest) ≡ ts ++ rowsOf rest
-unfolding rowsOf tokenRows
-rows-of-rows [] rest = refl
-rows-of-rows (t ∷ ts) rest = ap (λ (us : List Token). t ∷ us) (rows-of-rows ts rest)
+rows-of-rows : (source : List ℕ) (ts : List Token) (rest : List ℕ) → rowsOf (tokenRows source ts ++ rest) ≡ ts ++ rowsOf rest
+unfolding rowsOf tokenRow tokenRows
+rows-of-rows source [] rest = refl
+rows-of-rows source (t ∷ ts) rest = ap (λ (us : List Token). t ∷ us) (rows-of-rows source ts rest)
 
-pub filled-row : (ts : List Token) (table : List ℕ) (row : ℕ) → row < length ts → rowAt (filled ts table) row ≡ getD ts row noToken
+pub filled-row : (source : List ℕ) (ts : List Token) (table : List ℕ) (row : ℕ) → row < length ts
+    → rowAt (filled source ts table) row ≡ getD ts row noToken
 unfolding rowAt filled
-filled-row ts table row h =
-    rw (rows-of-rows ts (drop (length ts * tokenWidth) table)) (List·getD-append ts _ noToken row h)
+filled-row source ts table row h =
+    rw (rows-of-rows source ts (drop (length ts * tokenWidth) table)) (List·getD-append ts _ noToken row h)
 
-own-rows : (ts : List Token) → rowsOf (tokenRows ts) ≡ ts
-unfolding rowsOf tokenRows
-own-rows [] = refl
-own-rows (t ∷ ts) = ap (λ (us : List Token). t ∷ us) (own-rows ts)
+own-rows : (source : List ℕ) (ts : List Token) → rowsOf (tokenRows source ts) ≡ ts
+unfolding rowsOf tokenRow tokenRows
+own-rows source [] = refl
+own-rows source (t ∷ ts) = ap (λ (us : List Token). t ∷ us) (own-rows source ts)
 
 -- as many rows as there are tokens are the tokens' own, and nothing else
-pub filled-rows : (ts : List Token) (table : List ℕ) → rowsOf (take (length ts * tokenWidth) (filled ts table)) ≡ ts
+pub filled-rows : (source : List ℕ) (ts : List Token) (table : List ℕ) → rowsOf (take (length ts * tokenWidth) (filled source ts table)) ≡ ts
 unfolding filled
-filled-rows ts table = rw (take-at (tokenRows ts) (drop (length ts * tokenWidth) table) (length ts * tokenWidth) (rows-length ts)) (own-rows ts)
+filled-rows source ts table =
+    let n = length ts * tokenWidth in
+    rw (take-at (tokenRows source ts) (drop n table) n (rows-length source ts)) (own-rows source ts)

@@ -1,6 +1,6 @@
 -- The token list of a source, lexeme by lexeme: what it is from a place on. Assumes nothing.
 use Prim.Native.Nat.{ℕ, zero, suc, _+_, _<_, _≤_}
-use mathlib.Core.Path.{_≡_, refl, _∙_, ap}
+use mathlib.Core.Path.{_≡_, refl, sym, _∙_, ap}
 use mathlib.Core.Bool.{true}
 use mathlib.Core.List.{List, [], _∷_}
 use native.Mathlib.Omega.{arith}
@@ -9,14 +9,14 @@ use lib.ListN.{length, drop, length-drop}
 use lib.Seq.{drop-drop}
 use Rattle.lexer.specs.Editions.{Edition}
 use Rattle.lexer.specs.Lexemes.{lexeme}
-use Rattle.lexer.specs.Tokens.{size, follow, lexemesWithin, lexemes, Token, Scan, clean, fault, withToken, located, scan}
+use Rattle.lexer.specs.Tokens.{lexemeSize, follow, lexemesWithin, lexemes, Token, Ending, clean, Scan, cleanly, faultAfter, withToken, located, scan}
 use Rattle.lexer.specs.declared.Lexeme.{Lexeme}
 use Rattle.lexer.specs.declared.Lexeme.the-variants.{End, Skipped, BadByte, OpenString}
 use Rattle.lexer.proofs.Laws.Sizes.{Proper, of-token, of-skip, spelled, proper}
 
 -- what follows a lexeme counts only where the lexeme takes bytes
-follow-same : {s : List ℕ} (l : Lexeme) → Proper s l → (r q : List Lexeme) → (0 < size l → r ≡ q) → follow l r ≡ follow l q
-unfolding follow size
+follow-same : {s : List ℕ} (l : Lexeme) → Proper s l → (r q : List Lexeme) → (0 < lexemeSize l → r ≡ q) → follow l r ≡ follow l q
+unfolding follow lexemeSize
 follow-same End p r q h = refl
 follow-same (Skipped n) p r q h = ap (λ (x : List Lexeme). Skipped n ∷ x) (h (of-skip p .0))
 follow-same (Lexeme.Token k n) p r q h = ap (λ (x : List Lexeme). Lexeme.Token k n ∷ x) (h (of-token p .some))
@@ -33,18 +33,26 @@ module _ (e : Edition) (good : spelled (e .marks) ≡ true) where
   lexemes-enough (suc m) zero [] hm hk = refl
   lexemes-enough (suc m) zero (b ∷ s) hm hk = absurd (not-suc-le-zero hk)
   lexemes-enough (suc m) (suc k) s hm hk =
-      let l = length-drop (size (lexeme e s)) s in
+      let l = length-drop (lexemeSize (lexeme e s)) s in
       follow-same (lexeme e s) (proper e good s) _ _
-      (λ (h : 0 < size (lexeme e s)). lexemes-enough m k (drop (size (lexeme e s)) s) (omega arith) (omega arith))
+      (λ (h : 0 < lexemeSize (lexeme e s)). lexemes-enough m k (drop (lexemeSize (lexeme e s)) s) (omega arith) (omega arith))
 
   -- the first lexeme, and those of the bytes after it
-  pub lexemes-step : (s : List ℕ) → lexemes e s ≡ follow (lexeme e s) (lexemes e (drop (size (lexeme e s)) s))
+  pub lexemes-step : (s : List ℕ) → lexemes e s ≡ follow (lexeme e s) (lexemes e (drop (lexemeSize (lexeme e s)) s))
   unfolding lexemes lexemesWithin
   lexemes-step s =
-      let l = length-drop (size (lexeme e s)) s in
+      let l = length-drop (lexemeSize (lexeme e s)) s in
       lexemes-enough (length s) (suc (length s)) s (omega arith) (omega arith)
       ∙ follow-same (lexeme e s) (proper e good s) _ _
-      (λ (h : 0 < size (lexeme e s)). lexemes-enough (length s) (length (drop (size (lexeme e s)) s)) _ (omega arith) (omega arith))
+      (λ (h : 0 < lexemeSize (lexeme e s)). lexemes-enough (length s) (length (drop (lexemeSize (lexeme e s)) s)) _ (omega arith) (omega arith))
+
+-- what ends clean is its tokens, cleanly
+pub cleanly-found : (x : Scan) → x .ending ≡ clean → x ≡ cleanly (x .found)
+cleanly-found x h = ap (λ (end : Ending). record { found = x .found; ending = end }) h
+
+-- the tokens of a scan are one list
+pub found-once : (x : Scan) (ts us : List Token) → x ≡ cleanly ts → x ≡ cleanly us → ts ≡ us
+found-once x ts us h k = sym (ap (λ (y : Scan). y .found) h) ∙ ap (λ (y : Scan). y .found) k
 
 -- what a source is from a place on
 unfoldable pub scanFrom : Edition → List ℕ → ℕ → Scan
@@ -55,23 +63,23 @@ unfolding scanFrom scan
 scan-from-start e s = refl
 
 module _ (e : Edition) (good : spelled (e .marks) ≡ true) (s : List ℕ) (at : ℕ) where
-  pub scan-end : lexeme e (drop at s) ≡ End → scanFrom e s at ≡ clean []
+  pub scan-end : lexeme e (drop at s) ≡ End → scanFrom e s at ≡ cleanly []
   unfolding scanFrom follow located
   scan-end h = rw (lexemes-step e good (drop at s), h)
 
   pub scan-skip : (n : ℕ) → lexeme e (drop at s) ≡ Skipped n → scanFrom e s at ≡ scanFrom e s (at + n)
-  unfolding scanFrom follow located size
+  unfolding scanFrom follow located lexemeSize
   scan-skip n h = rw (lexemes-step e good (drop at s), h, drop-drop)
 
   pub scan-token : (k n : ℕ) → lexeme e (drop at s) ≡ Lexeme.Token k n
-      → scanFrom e s at ≡ withToken (record { kind = k; start = at; length = n }) (scanFrom e s (at + n))
-  unfolding scanFrom follow located size
+      → scanFrom e s at ≡ withToken (record { kind = k; start = at; size = n }) (scanFrom e s (at + n))
+  unfolding scanFrom follow located lexemeSize
   scan-token k n h = rw (lexemes-step e good (drop at s), h, drop-drop)
 
-  pub scan-bad : lexeme e (drop at s) ≡ BadByte → scanFrom e s at ≡ fault 3 at
+  pub scan-bad : lexeme e (drop at s) ≡ BadByte → scanFrom e s at ≡ faultAfter [] 3 at
   unfolding scanFrom follow located
   scan-bad h = rw (lexemes-step e good (drop at s), h)
 
-  pub scan-open : lexeme e (drop at s) ≡ OpenString → scanFrom e s at ≡ fault 4 at
+  pub scan-open : lexeme e (drop at s) ≡ OpenString → scanFrom e s at ≡ faultAfter [] 4 at
   unfolding scanFrom follow located
   scan-open h = rw (lexemes-step e good (drop at s), h)

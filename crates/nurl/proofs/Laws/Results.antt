@@ -10,11 +10,12 @@ use lib.ListN.{length, take}
 use borrow.Author.Tests.{leb-true, leb-false, ltb-false, le-ltb}
 use Rattle.lexer.specs.Tests.{pick}
 use Rattle.lexer.specs.Editions.{edition17}
-use Rattle.lexer.specs.Tokens.{Token, Scan, clean, fault, scan}
-use Rattle.lexer.specs.Table.{sourceLimit, tokenWidth, tokenRoom, filled, rowsOf, scanned, counted, withRoom, tokensOf, afterAnswer}
+use Rattle.lexer.specs.Tokens.{Token, Ending, clean, fault, cleanly, scan}
+use Rattle.lexer.specs.Table.{sourceLimit, tokenWidth, tokenRoom, filled, rowsOf, endedWith, scanned, counted, withRoom, afterAnswer}
 use Rattle.lexer.specs.Table.{tokenized, tableAfter}
 use Rattle.lexer.specs.declared.Scanned.the-variants.{Tokens}
 use Rattle.lexer.specs.declared.Scanned.{Scanned}
+use Rattle.lexer.proofs.Laws.Scans.{cleanly-found}
 use Rattle.lexer.proofs.Laws.Rows.{filled-length, filled-rows}
 use Rattle.lexer.proofs.Laws.Counts.{spelled17}
 use Rattle.lexer.proofs.Laws.Places.{fault-placed}
@@ -42,32 +43,32 @@ meets source names tokens rows r h =
     (h, (rw h (answer17-meets source names tokens rows), ap (λ (x : Result). values (x .answer)) h))
 
 -- what a reading of the tokens says does not depend on what else the token table holds
-rest-same : (ts : List Token) (lent tokens rows : List ℕ) (o : Outcome)
+rest-same : (source : List ℕ) (ts : List Token) (lent tokens rows : List ℕ) (o : Outcome)
     → _≡_ {A = Result} (record {
-      answer = result (judged (treeRoom rows) ts o) lent rows .answer;
-      tokens = filled ts tokens;
-      rows = result (judged (treeRoom rows) ts o) lent rows .rows;
+      answer = result source (judged (treeRoom rows) ts o) lent rows .answer;
+      tokens = filled source ts tokens;
+      rows = result source (judged (treeRoom rows) ts o) lent rows .rows;
     })
-    (result (judged (treeRoom rows) ts o) tokens rows)
+    (result source (judged (treeRoom rows) ts o) tokens rows)
 unfolding result judged
-rest-same ts lent tokens rows (stuck i) = refl
-rest-same ts lent tokens rows (deep i) = refl
-rest-same ts lent tokens rows spent = refl
-rest-same ts lent tokens rows (ok j rs said) = cases (leb (length rs) (treeRoom rows))
+rest-same source ts lent tokens rows (stuck i) = refl
+rest-same source ts lent tokens rows (deep i) = refl
+rest-same source ts lent tokens rows spent = refl
+rest-same source ts lent tokens rows (ok j rs said) = cases (leb (length rs) (treeRoom rows))
   where
     cases : (t : Bool) → _≡_ {A = Result} (record {
-      answer = result (pick t (accept ts rs) (late 8 (length rs) ts)) lent rows .answer;
-      tokens = filled ts tokens;
-      rows = result (pick t (accept ts rs) (late 8 (length rs) ts)) lent rows .rows;
+      answer = result source (pick t (accept ts rs) (late 8 (length rs) ts)) lent rows .answer;
+      tokens = filled source ts tokens;
+      rows = result source (pick t (accept ts rs) (late 8 (length rs) ts)) lent rows .rows;
     })
-        (result (pick t (accept ts rs) (late 8 (length rs) ts)) tokens rows)
+        (result source (pick t (accept ts rs) (late 8 (length rs) ts)) tokens rows)
     cases true = refl
     cases false = refl
 
 -- as many rows of a filled table as there are tokens are the tokens
-own-rows : (ts : List Token) (count : ℕ) (after tokens : List ℕ) → after ≡ filled ts tokens → count ≡ length ts
+own-rows : (source : List ℕ) (ts : List Token) (count : ℕ) (after tokens : List ℕ) → after ≡ filled source ts tokens → count ≡ length ts
     → rowsOf (take (count * tokenWidth) after) ≡ ts
-own-rows ts count after tokens table n = rw (table, n) (filled-rows ts tokens)
+own-rows source ts count after tokens table n = rw (table, n) (filled-rows source ts tokens)
 
 -- a good list is not too long
 pub good-short : (list : List ℕ) → checked edition17 list ≡ Good → length list ≤ nameLimit
@@ -99,7 +100,7 @@ module _ (source names tokens rows : List ℕ) where
     admitted : Admitted language17 source names
     admitted = record { within = within; good = good }
 
-    refused-fault : {A B : Type 0} (number place : ℕ) → scan edition17 source ≡ fault number place
+    refused-fault : {A B : Type 0} (number place : ℕ) → scan edition17 source .ending ≡ fault number place
         → ((number ≡ 3) × A) ⊎ ((number ≡ 4) × B) → unchanged number place ≡ answer17 source names tokens rows
     refused-fault number place h (inl (three, b)) =
         rw three
@@ -108,28 +109,37 @@ module _ (source names tokens rows : List ℕ) where
         rw four
         (sym (answer17-meets source names tokens rows .demand1 .refusal 4 place tokens rows (open-string admitted (rw four at h))))
 
-    refused-scan : (s : Scan) → scan edition17 source ≡ s → (number place : ℕ)
-        → withRoom (tokenRoom tokens) (scanned s) ≡ Scanned.Refused number place → unchanged number place ≡ answer17 source names tokens rows
-    unfolding withRoom scanned
-    refused-scan (fault n p) h number place t =
+    -- the tokens found, and that they are readable where the source ends clean
+    abbrev all : List Token
+    all = scan edition17 source .found
+
+    all-readable : scan edition17 source .ending ≡ clean → Readable language17 source names all
+    all-readable h = record { admitted = admitted; scans = cleanly-found (scan edition17 source) h }
+
+    refused-ending : (x : Ending) → scan edition17 source .ending ≡ x → (number place : ℕ)
+        → withRoom (tokenRoom tokens) (endedWith (length all) x) ≡ Scanned.Refused number place
+        → unchanged number place ≡ answer17 source names tokens rows
+    unfolding withRoom endedWith
+    refused-ending (fault n p) h number place t =
         let same : n ≡ number = cc in
         let at : p ≡ place = cc in
         rw (← same, ← at) (refused-fault n p h (fault-placed edition17 spelled17 source n p h .reason))
-    refused-scan (clean ts) h number place t = cases (leb (length ts) (tokenRoom tokens)) refl t
+    refused-ending clean h number place t = cases (leb (length all) (tokenRoom tokens)) refl t
       where
-        cases : (b : Bool) → leb (length ts) (tokenRoom tokens) ≡ b
-            → pick b (Tokens (length ts)) (Scanned.Refused 5 (length ts)) ≡ Scanned.Refused number place
+        cases : (b : Bool) → leb (length all) (tokenRoom tokens) ≡ b
+            → pick b (Tokens (length all)) (Scanned.Refused 5 (length all)) ≡ Scanned.Refused number place
             → unchanged number place ≡ answer17 source names tokens rows
         cases true q t = let z : _≡_ {A = ℕ} 0 1 = cc in absurd (omega arith)
         cases false q t =
             let five : 5 ≡ number = cc in
-            let at : length ts ≡ place = cc in
+            let at : length all ≡ place = cc in
             rw (← five, ← at)
-            (sym (answer17-meets source names tokens rows .demand1 .refusal 5 (length ts) tokens rows
-            (few-token-rows (record { admitted = admitted; scans = h }) (leb-false _ _ q))))
+            (sym (answer17-meets source names tokens rows .demand1 .refusal 5 (length all) tokens rows
+            (few-token-rows (all-readable h) (leb-false _ _ q))))
 
-    tokens-by : (t : Scanned) → tokenized edition17 source tokens ≡ t → withRoom (tokenRoom tokens) (scanned (scan edition17 source)) ≡ t
-    unfolding tokenized counted
+    tokens-by : (t : Scanned) → tokenized edition17 source tokens ≡ t
+        → withRoom (tokenRoom tokens) (endedWith (length all) (scan edition17 source .ending)) ≡ t
+    unfolding tokenized counted scanned
     tokens-by t h = rw (le-ltb sourceLimit (length source) within) at h
 
     kept-tokens : (number place : ℕ) → tokenized edition17 source tokens ≡ Scanned.Refused number place
@@ -143,7 +153,7 @@ module _ (source names tokens rows : List ℕ) where
     refused-tokens number place after h left =
         let kept = left ∙ kept-tokens number place h in
         ap (λ (numbers : List ℕ). record { answer = Refused number place; tokens = numbers; rows = rows }) kept
-        ∙ refused-scan (scan edition17 source) refl number place (tokens-by (Scanned.Refused number place) h)
+        ∙ refused-ending (scan edition17 source .ending) refl number place (tokens-by (Scanned.Refused number place) h)
 
     -- the tokens that the tokeniser has put into the table
     record Found (count : ℕ) : Type 0 where
@@ -151,20 +161,21 @@ module _ (source names tokens rows : List ℕ) where
       readable : Readable language17 source names tokens-found
       counted-found : count ≡ length tokens-found
       room : length tokens-found ≤ tokenRoom tokens
-      table : tableAfter edition17 source tokens ≡ filled tokens-found tokens
+      table : tableAfter edition17 source tokens ≡ filled source tokens-found tokens
 
-    found-scan : (s : Scan) → scan edition17 source ≡ s → (count : ℕ) → withRoom (tokenRoom tokens) (scanned s) ≡ Tokens count
-        → tableAfter edition17 source tokens ≡ filled (tokensOf s) tokens → Found count
-    unfolding withRoom scanned tokensOf
-    found-scan (fault n p) h count t after = let z : _≡_ {A = ℕ} 0 1 = cc in absurd (omega arith)
-    found-scan (clean ts) h count t after = cases (leb (length ts) (tokenRoom tokens)) refl t
+    found-ending : (x : Ending) → scan edition17 source .ending ≡ x → (count : ℕ)
+        → withRoom (tokenRoom tokens) (endedWith (length all) x) ≡ Tokens count
+        → tableAfter edition17 source tokens ≡ filled source all tokens → Found count
+    unfolding withRoom endedWith
+    found-ending (fault n p) h count t after = let z : _≡_ {A = ℕ} 0 1 = cc in absurd (omega arith)
+    found-ending clean h count t after = cases (leb (length all) (tokenRoom tokens)) refl t
       where
-        cases : (b : Bool) → leb (length ts) (tokenRoom tokens) ≡ b
-            → pick b (Tokens (length ts)) (Scanned.Refused 5 (length ts)) ≡ Tokens count → Found count
+        cases : (b : Bool) → leb (length all) (tokenRoom tokens) ≡ b
+            → pick b (Tokens (length all)) (Scanned.Refused 5 (length all)) ≡ Tokens count → Found count
         cases false q t = let z : _≡_ {A = ℕ} 0 1 = cc in absurd (omega arith)
         cases true q t = record {
-          tokens-found = ts;
-          readable = record { admitted = admitted; scans = h };
+          tokens-found = all;
+          readable = all-readable h;
           counted-found = cc;
           room = leb-true _ _ q;
           table = after;
@@ -172,16 +183,16 @@ module _ (source names tokens rows : List ℕ) where
 
     found-tokens : (count : ℕ) → tokenized edition17 source tokens ≡ Tokens count → Found count
     unfolding tableAfter afterAnswer
-    found-tokens count h = found-scan (scan edition17 source) refl count (tokens-by (Tokens count) h) (rw h)
+    found-tokens count h = found-ending (scan edition17 source .ending) refl count (tokens-by (Tokens count) h) (rw h)
 
-    rest-by : (ts us : List Token) (lent after : List ℕ) (answer : Answer) (rowsAfter : List ℕ) → us ≡ ts → after ≡ filled ts tokens
+    rest-by : (ts us : List Token) (lent after : List ℕ) (answer : Answer) (rowsAfter : List ℕ) → us ≡ ts → after ≡ filled source ts tokens
         → Readable language17 source names ts → length ts ≤ tokenRoom tokens
-        → answer ≡ result (judged (treeRoom rows) us (readTokens language17 levelLimit source names us)) lent rows .answer
-        → rowsAfter ≡ result (judged (treeRoom rows) us (readTokens language17 levelLimit source names us)) lent rows .rows
+        → answer ≡ result source (judged (treeRoom rows) us (readTokens language17 levelLimit source names us)) lent rows .answer
+        → rowsAfter ≡ result source (judged (treeRoom rows) us (readTokens language17 levelLimit source names us)) lent rows .rows
         → _≡_ {A = Result} (record { answer = answer; tokens = after; rows = rowsAfter }) (answer17 source names tokens rows)
     rest-by ts us lent after answer rowsAfter same table readable room a t =
         rw (a, t, same, table)
-        (rest-same ts lent tokens rows (readTokens language17 levelLimit source names ts)
+        (rest-same source ts lent tokens rows (readTokens language17 levelLimit source names ts)
         ∙ sym (read-result language17 source names levelLimit tokens rows ts readable room))
 
     -- the rows of the tokens are lent to the reading, and nothing else
@@ -191,7 +202,7 @@ module _ (source names tokens rows : List ℕ) where
         found : Found count
         found = found-tokens count said
 
-        table-filled : after ≡ filled (found .tokens-found) tokens
+        table-filled : after ≡ filled source (found .tokens-found) tokens
         table-filled = left ∙ found .table
 
         pub lent-inside : count * tokenWidth ≤ length tokens
@@ -200,13 +211,13 @@ module _ (source names tokens rows : List ℕ) where
         pub lent-after : count * tokenWidth ≤ length after
         lent-after =
             let room = found .room in
-            let l = filled-length (found .tokens-found) tokens (omega arith) in
+            let l = filled-length source (found .tokens-found) tokens (omega arith) in
             rw (table-filled, l) lent-inside
 
         lent-rows : rowsOf (take (count * tokenWidth) after) ≡ found .tokens-found
-        lent-rows = own-rows (found .tokens-found) count after tokens table-filled (found .counted-found)
+        lent-rows = own-rows source (found .tokens-found) count after tokens table-filled (found .counted-found)
 
-        pub lent-scan : scan edition17 source ≡ clean (rowsOf (take (count * tokenWidth) after))
+        pub lent-scan : scan edition17 source ≡ cleanly (rowsOf (take (count * tokenWidth) after))
         lent-scan = found .readable .scans ∙ rw lent-rows
 
         -- No. 6 to 8, or acceptance

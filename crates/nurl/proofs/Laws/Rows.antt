@@ -12,7 +12,7 @@ use borrow.Author.Tests.{le-leb, lt-leb}
 use Rattle.lexer.specs.Tests.{and, between}
 use Rattle.lexer.specs.Kinds.{firstKind, lastKind}
 use Rattle.lexer.specs.Editions.{edition17}
-use Rattle.lexer.specs.Tokens.{Token, clean, scan}
+use Rattle.lexer.specs.Tokens.{Token, cleanly, scan}
 use Rattle.lexer.specs.Table.{sourceLimit, tokenRoom, rowsOf, rowAt, noToken}
 use Rattle.lexer.proofs.Laws.Counts.{spelled17}
 use Rattle.lexer.proofs.Laws.Rows.{rows-of-length}
@@ -113,7 +113,7 @@ kinds-between (placed-more {t = t} l x f r) zero h = kind-between (t .kind) (f .
 kinds-between (placed-more l x f r) (suc at) h = kinds-between r at (omega arith)
 
 -- the tokens of a source, in a table that holds nothing else
-module _ (source names tokens : List ℕ) (short : length source ≤ sourceLimit) (scans : scan edition17 source ≡ clean (rowsOf tokens)) where
+module _ (source names tokens : List ℕ) (short : length source ≤ sourceLimit) (scans : scan edition17 source ≡ cleanly (rowsOf tokens)) where
   pub tokens-good : Tokens tokens
   unfolding rowAt
   tokens-good =

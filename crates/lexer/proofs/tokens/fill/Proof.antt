@@ -6,6 +6,7 @@ use lib.ListN.{length}
 use Rattle.lexer.proofs.Laws.Counts.{skip-inside, token-inside}
 use Rattle.lexer.proofs.Laws.Fills.{Filling, fill-start, fill-length, fill-skip, fill-inside, fill-token, fill-end, not-bad}
 use Rattle.lexer.proofs.Laws.Fills.{not-open}
+use Rattle.lexer.proofs.Laws.Rows.{row-written}
 use borrow.Author.Needs.{needs}
 use native.Mathlib.Omega.{arith}
 use Rattle.lexer.proofs.tokens.fill.Statement.{statement}
@@ -73,19 +74,19 @@ loop-again c =
 enum-known-next-2 : tie.Need-enum-known-next-2 Inv-loop μ-loop
 enum-known-next-2 c = search needs
 
-cast-put-token : tie.Need-cast-put-token Inv-loop μ-loop
-cast-put-token c =
-    let pre = c .before .before .before .before .before .before .before .before .pre in
-    let loop = c .before .before .before .before .before .loop in
+cast-start : tie.Need-cast-start Inv-loop μ-loop
+cast-start c =
+    let pre = c .before .before .before .before .before .before .before .pre in
+    let loop = c .before .before .before .before .loop in
     let p = pre .0 in let a = loop .inv .0 in omega arith
 
-cast-put-token-2 : tie.Need-cast-put-token-2 Inv-loop μ-loop
-cast-put-token-2 c =
-    let lexeme-at = c .before .before .before .before .lexeme-at in
-    let next2 = c .before .before .next2 in
-    let args = c .before .before .before .before .before .before .before .before .args in
-    let loop = c .before .before .before .before .before .loop in
-    let pre = c .before .before .before .before .before .before .before .before .pre in
+cast-size : tie.Need-cast-size Inv-loop μ-loop
+cast-size c =
+    let lexeme-at = c .before .before .before .lexeme-at in
+    let next2 = c .before .next2 in
+    let args = c .before .before .before .before .before .before .before .args in
+    let loop = c .before .before .before .before .loop in
+    let pre = c .before .before .before .before .before .before .before .pre in
     let h = sym (lexeme-at .ensures) ∙ next2 .given .1 in
     let i = token-inside (args .source .now) (loop .at) _ _ h in
     let p = pre .0 in
@@ -145,7 +146,7 @@ loop-again-2 c =
     let h = sym (lexeme-at .ensures) ∙ next2 .given .1 in
     let i = token-inside (args .source .now) (loop .at) _ _ h in
     let r = loop .inv .1 in
-    (i .1, omega arith, rw (put-token .ensures) (fill-token _ _ _ _ _ (loop .inv .2) _ _ h (pre .1 .1)))
+    (i .1, omega arith, rw (put-token .ensures) (fill-token _ _ _ _ _ (loop .inv .2) _ _ h (pre .1 .1) _ (row-written (args .source .now) _ _ _)))
 
 enum-told-2 : tie.Need-enum-told-2 Inv-loop μ-loop
 enum-told-2 c = search needs
@@ -193,8 +194,8 @@ fill-spec =
     loop-less
     loop-again
     enum-known-next-2
-    cast-put-token
-    cast-put-token-2
+    cast-start
+    cast-size
     put-token-requires
     add-row
     add-at-2

@@ -46,7 +46,7 @@ fill-requires c κs =
     let e = room .ensures in
     let fits = if1 .left in
     let n = k .count in
-    (k .short, (k .all, omega arith))
+    (k .short, (k .ends, omega arith))
 
 returns-2 : tie.Need-returns-2
 returns-2 c =

@@ -12,8 +12,8 @@ start-at-requires c κs = search needs
 at-most-requires : tie.Need-at-most-requires
 at-most-requires c κs = search needs
 
-length-at-requires : tie.Need-length-at-requires
-length-at-requires c κs = search needs
+size-at-requires : tie.Need-size-at-requires
+size-at-requires c κs = search needs
 
 sub-at-most : tie.Need-sub-at-most
 sub-at-most c = search needs
@@ -38,11 +38,11 @@ unfolding itemOf
 returns c =
     let at-most = c .before .before .before .at-most in
     let at-most2 = c .before .at-most2 in
-    let length-at = c .before .before .length-at in
+    let size-at = c .before .before .size-at in
     let start-at = c .before .before .before .before .start-at in
     let args = c .before .before .before .before .before .before .before .args in
     let size = add-sub-cancel-left (at-most .result) (at-most2 .result) in
-    rw (size, at-most2 .ensures, length-at .ensures, at-most .ensures, start-at .ensures)
+    rw (size, at-most2 .ensures, size-at .ensures, at-most .ensures, start-at .ensures)
     (text-cut (args .source .now) _ _)
 
 pub text-at-spec : {M : Type 1} → statement M
@@ -51,7 +51,7 @@ text-at-spec =
     (tie.spec
     start-at-requires
     at-most-requires
-    length-at-requires
+    size-at-requires
     sub-at-most
     at-most-requires-2
     add-end
