@@ -28,3 +28,4 @@ pub mod Nurl17
 pub mod Examples
 pub mod Lists17
 pub mod Readers
+pub mod Names

@@ -4,7 +4,7 @@ use mathlib.Core.Bool.{Bool, false}
 use mathlib.Core.List.{List, [], _∷_}
 use lib.Dec.{eqb, leb}
 use Rattle.lexer.specs.Tests.{and, pick}
-use Rattle.lexer.specs.Kinds.{ident, lastKind}
+use Rattle.lexer.specs.internal.Kinds.{ident, lastKind}
 use Rattle.grammar.specs.Grammars.{Production, Names, View}
 use Rattle.grammar.specs.First.{canBegin, canSkip}
 use Rattle.grammar.specs.Reading.{ready, Choice, none, one}

@@ -16,12 +16,8 @@ allows c b (query q) = true
 unfoldable pub skips : ℕ → (ℕ → Bool) → List Symbol → Bool
 skips c empty [] = true
 skips c empty (token cs ∷ ss) = false
-skips c empty (part x ∷ ss) =
-    let rest = skips c empty ss in
-    and (empty x) rest
-skips c empty (condition b q ∷ ss) =
-    let rest = skips c empty ss in
-    and (allows c b q) rest
+skips c empty (part x ∷ ss) = let rest = skips c empty ss in and (empty x) rest
+skips c empty (condition b q ∷ ss) = let rest = skips c empty ss in and (allows c b q) rest
 
 -- whether symbols can begin with a token of class c, given which nonterminals can, and which can derive no token before it
 unfoldable pub starts : ℕ → (ℕ → Bool) → (ℕ → Bool) → List Symbol → Bool
@@ -31,9 +27,7 @@ starts c first empty (part x ∷ ss) =
     let rest = starts c first empty ss in
     let later = and (empty x) rest in
     or (first x) later
-starts c first empty (condition b q ∷ ss) =
-    let rest = starts c first empty ss in
-    and (allows c b q) rest
+starts c first empty (condition b q ∷ ss) = let rest = starts c first empty ss in and (allows c b q) rest
 
 -- whether some production of a nonterminal passes a test of its right side
 unfoldable pub anyOf : ℕ → (List Symbol → Bool) → List Production → Bool

@@ -4,11 +4,11 @@ use mathlib.Core.List.{List, [], _++_}
 use lib.Dec.{eqb}
 use lib.ListN.{take, drop, getD}
 use Rattle.lexer.specs.Tests.{and, pick}
-use Rattle.lexer.specs.Kinds.{ident}
+use Rattle.lexer.specs.Kinds.{tokenKind}
 use Rattle.lexer.specs.Editions.{Edition, edition17}
 use Rattle.typenames.specs.TypeNames.{Item, opening17, isNamed}
 use Rattle.grammar.specs.Grammars.{endOfTokens, Production, Names, View}
-use Rattle.grammar.specs.Nonterminals.{program}
+use Rattle.grammar.specs.Nonterminals.{nonterminal}
 use Rattle.grammar.specs.Classes.{typeName}
 use Rattle.grammar.specs.Questions.{Question, answerTo}
 use Rattle.grammar.specs.Nurl.{productions, questions17}
@@ -30,7 +30,7 @@ language17 =
     record {
       lexical = edition17;
       productions = productions;
-      start = program;
+      start = nonterminal "program";
       questions = questions17;
       opening = opening17;
       adds = λ x ts. [];
@@ -41,7 +41,7 @@ noItem = record { kind = endOfTokens; text = [] }
 
 -- the class of a token: its kind, but an IDENT in N has a class of its own
 unfoldable pub classOf : Names → Item → ℕ
-classOf e t = pick (and (eqb (t .kind) ident) (isNamed e (t .text))) typeName (t .kind)
+classOf e t = pick (and (eqb (t .kind) (tokenKind "IDENT")) (isNamed e (t .text))) typeName (t .kind)
 
 -- what the grammar asks of some tokens; past the last of them is the end
 unfoldable pub view : Language → List Item → View

@@ -18,3 +18,4 @@ pub mod TreeTable
 pub mod Answers
 pub mod Examples
 pub mod Demands
+pub mod internal

@@ -1,161 +1,20 @@
--- The nonterminals of the table of NURL, each number in this one place.
+-- The nonterminals of the table of NURL; their numbers mean nothing. Those that 009 has no word for: `interface`, a trait or an
+-- impl; `method`, a header or a function of a trait; `definition`, a struct, an enum or a constant, after its `:`; `mutable`,
+-- `'~'?`; `fields`, of a struct, and the parameters of a foreign declaration; `typeParameters`, `type_params?`; `typeArguments`,
+-- `( '[' IDENT+ ']' )?` of a call; `selector`, `INT?` of a cast; `structParameters`, `type_params?` of a struct.
 use Prim.Native.Nat.{ℕ}
+use Prim.Native.String.{String}
+use mathlib.Core.List.{List, [], _∷_}
+use Rattle.lexer.specs.Names.{positionFrom}
 
-abbrev pub program : ℕ
-program = 1
+abbrev pub nonterminals : List String
+nonterminals =
+    "program" ∷ "declarations" ∷ "declaration" ∷ "alias" ∷ "interface" ∷ "interfaceRest" ∷ "methods" ∷ "method" ∷ "body" ∷ "functions" ∷
+    "function" ∷ "definition" ∷ "mutable" ∷ "fields" ∷ "field" ∷ "fieldName" ∷ "parameters" ∷ "parameter" ∷ "variants" ∷ "variant" ∷
+    "payloadTypes" ∷ "typeParameters" ∷ "nameList" ∷ "moreNames" ∷ "block" ∷ "statements" ∷ "statement" ∷ "binding" ∷ "assignment" ∷
+    "tildeStatement" ∷ "loopOrComplement" ∷ "expressions" ∷ "expression" ∷ "literal" ∷ "tryOrClosure" ∷ "typeArguments" ∷ "wordList" ∷
+    "moreWords" ∷ "castRest" ∷ "selector" ∷ "arms" ∷ "arm" ∷ "payloads3" ∷ "payloads2" ∷ "payloads1" ∷ "payload" ∷ "types" ∷ "type" ∷
+    "parenthesized" ∷ "structParameters" ∷ []
 
-abbrev pub declarations : ℕ
-declarations = 2
-
-abbrev pub declaration : ℕ
-declaration = 3
-
-abbrev pub alias : ℕ
-alias = 4
-
--- a trait or an impl
-abbrev pub interface : ℕ
-interface = 5
-
-abbrev pub interfaceRest : ℕ
-interfaceRest = 6
-
-abbrev pub methods : ℕ
-methods = 7
-
--- a header or a function of a trait
-abbrev pub method : ℕ
-method = 8
-
-abbrev pub body : ℕ
-body = 9
-
-abbrev pub functions : ℕ
-functions = 10
-
-abbrev pub function : ℕ
-function = 11
-
--- a struct, an enum or a constant, after its `:`
-abbrev pub definition : ℕ
-definition = 12
-
--- `'~'?`
-abbrev pub mutable : ℕ
-mutable = 13
-
--- of a struct, and the parameters of a foreign declaration
-abbrev pub fields : ℕ
-fields = 14
-
-abbrev pub field : ℕ
-field = 15
-
-abbrev pub fieldName : ℕ
-fieldName = 16
-
-abbrev pub parameters : ℕ
-parameters = 17
-
-abbrev pub parameter : ℕ
-parameter = 18
-
-abbrev pub variants : ℕ
-variants = 19
-
-abbrev pub variant : ℕ
-variant = 20
-
-abbrev pub payloadTypes : ℕ
-payloadTypes = 21
-
--- `type_params?`
-abbrev pub typeParameters : ℕ
-typeParameters = 22
-
-abbrev pub nameList : ℕ
-nameList = 23
-
-abbrev pub moreNames : ℕ
-moreNames = 24
-
-abbrev pub block : ℕ
-block = 25
-
-abbrev pub statements : ℕ
-statements = 26
-
-abbrev pub statement : ℕ
-statement = 27
-
-abbrev pub binding : ℕ
-binding = 28
-
-abbrev pub assignment : ℕ
-assignment = 29
-
-abbrev pub tildeStatement : ℕ
-tildeStatement = 30
-
-abbrev pub loopOrComplement : ℕ
-loopOrComplement = 31
-
-abbrev pub expressions : ℕ
-expressions = 32
-
-abbrev pub expression : ℕ
-expression = 33
-
-abbrev pub literal : ℕ
-literal = 34
-
-abbrev pub tryOrClosure : ℕ
-tryOrClosure = 35
-
--- `( '[' IDENT+ ']' )?` of a call
-abbrev pub typeArguments : ℕ
-typeArguments = 36
-
-abbrev pub wordList : ℕ
-wordList = 37
-
-abbrev pub moreWords : ℕ
-moreWords = 38
-
-abbrev pub castRest : ℕ
-castRest = 39
-
--- `INT?` of a cast
-abbrev pub selector : ℕ
-selector = 40
-
-abbrev pub arms : ℕ
-arms = 41
-
-abbrev pub arm : ℕ
-arm = 42
-
-abbrev pub payloads3 : ℕ
-payloads3 = 43
-
-abbrev pub payloads2 : ℕ
-payloads2 = 44
-
-abbrev pub payloads1 : ℕ
-payloads1 = 45
-
-abbrev pub payload : ℕ
-payload = 46
-
-abbrev pub types : ℕ
-types = 47
-
-abbrev pub type : ℕ
-type = 48
-
-abbrev pub parenthesized : ℕ
-parenthesized = 49
-
--- `type_params?` of a struct
-abbrev pub structParameters : ℕ
-structParameters = 50
+abbrev pub nonterminal : String → ℕ
+nonterminal name = positionFrom 1 nonterminals name

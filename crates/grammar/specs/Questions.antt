@@ -23,10 +23,7 @@ isText (t ∷ ts) w = or (same t w) (isText ts w)
 -- how many tokens of these kinds stand at the front
 unfoldable pub runOf : List ℕ → List Item → ℕ
 runOf ks [] = 0
-runOf ks (t ∷ ts) =
-    let rest = runOf ks ts in
-    let more = suc rest in
-    pick (among ks (t .kind)) more 0
+runOf ks (t ∷ ts) = let more = suc (runOf ks ts) in pick (among ks (t .kind)) more 0
 
 -- whether tokens begin as a pattern says
 unfoldable pub fits : List Piece → List Item → Bool

@@ -26,9 +26,7 @@ unfoldable pub ready : View → Names → ℕ → List Symbol → Bool
 ready v e i [] = true
 ready v e i (token cs ∷ ss) = true
 ready v e i (part x ∷ ss) = true
-ready v e i (condition b q ∷ ss) =
-    let rest = ready v e i ss in
-    and (met v e i b q) rest
+ready v e i (condition b q ∷ ss) = let rest = ready v e i ss in and (met v e i b q) rest
 
 pub data Choice : Type 0 where
   none : Choice

@@ -1,7 +1,7 @@
 // Which alternative of a nonterminal a token begins, by the token's kind.
 use crate::tables;
 ghost use mathlib.Core.Path.{_≡_};
-ghost use Rattle.grammar.specs.Nonterminals.{type, expression, statement, declaration};
+ghost use Rattle.grammar.specs.internal.Nonterminals.{type, expression, statement, declaration};
 ghost use Rattle.grammar.specs.Alternatives.{kindAlternative};
 
 // The kinds of tokens are from 1 to this one.

@@ -18,3 +18,4 @@ pub mod Rows
 pub mod Fills
 pub mod Answers
 pub mod Examples
+pub mod Kinds

@@ -51,6 +51,4 @@ begins a = beginsEither a a
 -- how many bytes at the front pass a test, as many as possible
 unfoldable pub run : (ℕ → Bool) → List ℕ → ℕ
 run p [] = 0
-run p (b ∷ s) =
-    let n = run p s in
-    pick (p b) (suc n) 0
+run p (b ∷ s) = let n = run p s in pick (p b) (suc n) 0

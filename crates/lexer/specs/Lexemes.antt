@@ -5,7 +5,7 @@ use mathlib.Core.List.{List, [], _∷_}
 use lib.Dec.{eqb, ltb}
 use lib.ListN.{length, take, drop}
 use Rattle.lexer.specs.Tests.{and, pick}
-use Rattle.lexer.specs.Kinds.{ident, int, float, string}
+use Rattle.lexer.specs.Kinds.{tokenKind}
 use Rattle.lexer.specs.Bytes.{isSpace, isInLine, isInString, begins, run}
 use Rattle.lexer.specs.Spellings.{Spelling, kindOf, longest}
 use Rattle.lexer.specs.Editions.{Edition}
@@ -35,7 +35,7 @@ unfoldable pub wordOf : ℕ → ℕ → List ℕ → Lexeme
 wordOf zero k s = BadByte
 wordOf (suc n) k s =
     let more = joins (drop (suc n) s) in
-    pick (eqb k ident) (Token k (suc n + more)) (Token k (suc n))
+    pick (eqb k (tokenKind "IDENT")) (Token k (suc n + more)) (Token k (suc n))
 
 unfoldable pub word : List ℕ → Lexeme
 word s = wordOf (wordLength s) (wordKind (take (wordLength s) s)) s
@@ -43,8 +43,8 @@ word s = wordOf (wordLength s) (wordKind (take (wordLength s) s)) s
 -- digits of length n with a fraction of length f, both at the front of s in a row; `3.` is INT and `.`
 unfoldable pub numberOf : ℕ → ℕ → List ℕ → Lexeme
 numberOf zero f s = BadByte
-numberOf (suc n) zero s = Token int (suc n)
-numberOf (suc n) (suc f) s = Token float (suc n + suc f + exponent (drop (suc n + suc f) s))
+numberOf (suc n) zero s = Token (tokenKind "INT") (suc n)
+numberOf (suc n) (suc f) s = Token (tokenKind "FLOAT") (suc n + suc f + exponent (drop (suc n + suc f) s))
 
 unfoldable pub unsignedNumber : List ℕ → Lexeme
 unsignedNumber s = numberOf (digits s) (fraction (drop (digits s) s)) s
@@ -67,7 +67,7 @@ number e s =
 unfoldable pub text : List ℕ → Lexeme
 text s =
     let n = run isInString (drop 1 s) in
-    pick (begins (code "`") s) (pick (ltb (1 + n) (length s)) (Token string (2 + n)) OpenString) BadByte
+    pick (begins (code "`") s) (pick (ltb (1 + n) (length s)) (Token (tokenKind "STR") (2 + n)) OpenString) BadByte
 
 -- a mark of kind k and length n; 0 is not a kind
 unfoldable pub markOf : ℕ → ℕ → Lexeme → Lexeme
@@ -92,14 +92,14 @@ orElse (Token k n) other = Token k n
 orElse BadByte other = other
 orElse OpenString other = OpenString
 
+-- what the first of some rules that fits gives
+abbrev pub firstOf : List (List ℕ → Lexeme) → List ℕ → Lexeme
+firstOf [] s = BadByte
+firstOf (rule ∷ []) s = rule s
+firstOf (rule ∷ next ∷ more) s = let later = firstOf (next ∷ more) s in orElse (rule s) later
+
 -- The lexeme at the front: the first rule that fits, in document 01's order. No later rule gives a longer one
 -- (`lexeme-longest` in proofs/), so it is the longest.
 unfoldable pub lexeme : Edition → List ℕ → Lexeme
 lexeme e [] = End
-lexeme e (b ∷ s) =
-    let t = b ∷ s in
-    let fromText = orElse (text t) (mark e t) in
-    let fromNumber = orElse (number e t) fromText in
-    let fromWord = orElse (word t) fromNumber in
-    let fromComment = orElse (comment t) fromWord in
-    orElse (spaces t) fromComment
+lexeme e (b ∷ s) = firstOf (spaces ∷ comment ∷ word ∷ number e ∷ text ∷ mark e ∷ []) (b ∷ s)

@@ -1,6 +1,7 @@
 -- The lexical rules of NURL, in the order of document 01's section "From bytes to tokens", and the token table.
 pub mod Tests
 pub mod Text
+pub mod Names
 pub mod Kinds
 pub mod Bytes
 pub mod Spellings
@@ -12,3 +13,4 @@ pub mod Tokens
 pub mod Table
 pub mod Examples
 pub mod Leaves
+pub mod internal

@@ -18,9 +18,7 @@ withDigits n (suc d) = n + suc d
 
 -- a point and digits at the front, 0 where not all of that is there
 unfoldable pub fraction : List ℕ → ℕ
-fraction s =
-    let n = withDigits 1 (digits (drop 1 s)) in
-    pick (begins (code ".") s) n 0
+fraction s = let n = withDigits 1 (digits (drop 1 s)) in pick (begins (code ".") s) n 0
 
 -- an optional sign at the front
 unfoldable pub sign : List ℕ → ℕ

@@ -2,24 +2,21 @@
 use Prim.Native.Nat.{ℕ, max}
 use Prim.Native.String.{String}
 use mathlib.Core.Bool.{Bool, true, false}
-use mathlib.Core.List.{List, [], _∷_}
+use mathlib.Core.List.{List, [], _∷_, _++_, map}
 use lib.Dec.{eqb}
-use lib.ListN.{length}
+use lib.ListN.{length, take, drop}
 use Rattle.lexer.specs.Tests.{and, pick}
 use Rattle.lexer.specs.Text.{bytes}
-use Rattle.lexer.specs.Kinds.{keyword, boolean, sizeof, dollar, ampersand, at, percent, colon, bar, equal, semicolon, tilde}
-use Rattle.lexer.specs.Kinds.{leftBrace, rightBrace, leftParen, rightParen, leftBracket, rightBracket, bang, caret, backslash}
-use Rattle.lexer.specs.Kinds.{question, dot, hash, star, plus, minus, slash, less, greater, equalEqual, bangEqual, lessEqual}
-use Rattle.lexer.specs.Kinds.{greaterEqual, lessLess, greaterGreater, questionQuestion, arrow}
+use Rattle.lexer.specs.Kinds.{tokenKinds, tokenKind}
 
 pub record Spelling : Type 0 where
   pub text : List ℕ
   pub kind : ℕ
 
 infix 90 _is_
-unfoldable pub _is_ : String → ℕ → Spelling
+unfoldable pub _is_ : String → String → Spelling
 unfolding bytes
-s is k = record { text = bytes s; kind = k }
+s is k = record { text = bytes s; kind = tokenKind k }
 
 -- whether two lists of bytes are the same
 unfoldable pub same : List ℕ → List ℕ → Bool
@@ -42,24 +39,15 @@ longest (m ∷ ms) = max (length (m .text)) (longest ms)
 unfoldable pub reserved : List Spelling
 unfolding _is_
 reserved =
-    "i" is keyword ∷ "u" is keyword ∷ "f" is keyword ∷ "b" is keyword ∷ "s" is keyword ∷ "v" is keyword ∷
-    "T" is boolean ∷ "F" is boolean ∷
-    "Z" is sizeof ∷
-    []
+    "i" is "keyword" ∷ "u" is "keyword" ∷ "f" is "keyword" ∷ "b" is "keyword" ∷ "s" is "keyword" ∷ "v" is "keyword" ∷
+    "T" is "boolean" ∷ "F" is "boolean" ∷ "Z" is "Z" ∷ []
 
--- the marks that every edition has
+-- Kinds 8 to 42 are marks, which are spelled as they are called. Those that every edition has:
 unfoldable pub commonMarks : List Spelling
 unfolding _is_
-commonMarks =
-    "$" is dollar ∷ "&" is ampersand ∷ "@" is at ∷ "%" is percent ∷ ":" is colon ∷ "|" is bar ∷ "=" is equal ∷
-    ";" is semicolon ∷ "~" is tilde ∷ "{" is leftBrace ∷ "}" is rightBrace ∷ "(" is leftParen ∷ ")" is rightParen ∷
-    "[" is leftBracket ∷ "]" is rightBracket ∷ "!" is bang ∷ "^" is caret ∷ "\\" is backslash ∷ "?" is question ∷
-    "." is dot ∷ "#" is hash ∷ "*" is star ∷ "+" is plus ∷ "-" is minus ∷ "/" is slash ∷ "<" is less ∷ ">" is greater ∷
-    "==" is equalEqual ∷ "!=" is bangEqual ∷ "<=" is lessEqual ∷ ">=" is greaterEqual ∷ "??" is questionQuestion ∷
-    "→" is arrow ∷
-    []
+commonMarks = map (λ (s : String). s is s) (take 31 (drop 7 tokenKinds) ++ drop 40 tokenKinds)
 
 -- the marks of 1.7 that 1.1 does not have
 unfoldable pub shiftMarks : List Spelling
 unfolding _is_
-shiftMarks = "<<" is lessLess ∷ ">>" is greaterGreater ∷ []
+shiftMarks = "<<" is "<<" ∷ ">>" is ">>" ∷ []

@@ -66,20 +66,14 @@ faultAfter ts number place = record { found = ts; ending = fault number place }
 unfoldable pub withToken : Token → Scan → Scan
 withToken t x = record { found = t ∷ x .found; ending = x .ending }
 
-abbrev pub badByteNumber : ℕ
-badByteNumber = 3
-
-abbrev pub openStringNumber : ℕ
-openStringNumber = 4
-
 -- lexemes in order, the first of them at an offset, as tokens in their places
 unfoldable pub located : ℕ → List Lexeme → Scan
 located at [] = cleanly []
 located at (End ∷ ls) = cleanly []
 located at (Skipped n ∷ ls) = located (at + n) ls
 located at (Lexeme.Token k n ∷ ls) = withToken (record { kind = k; start = at; size = n }) (located (at + n) ls)
-located at (BadByte ∷ ls) = faultAfter [] badByteNumber at
-located at (OpenString ∷ ls) = faultAfter [] openStringNumber at
+located at (BadByte ∷ ls) = faultAfter [] 3 at
+located at (OpenString ∷ ls) = faultAfter [] 4 at
 
 -- the tokens of a source, up to its first fault, and how it ends
 unfoldable pub scan : Edition → List ℕ → Scan

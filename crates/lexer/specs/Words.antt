@@ -7,20 +7,18 @@ use mathlib.Core.List.{List, [], _∷_}
 use lib.Dec.{eqb, ltb}
 use lib.ListN.{length, take, drop}
 use Rattle.lexer.specs.Tests.{and, pick}
-use Rattle.lexer.specs.Kinds.{ident}
+use Rattle.lexer.specs.Kinds.{tokenKind}
 use Rattle.lexer.specs.Bytes.{isLetter, isWordByte, run}
 use Rattle.lexer.specs.Spellings.{kindOf, reserved, same}
 
 -- the length of the word at the front, 0 where there is none
 unfoldable pub wordLength : List ℕ → ℕ
 wordLength [] = 0
-wordLength (b ∷ s) =
-    let n = run isWordByte s in
-    pick (isLetter b) (suc n) 0
+wordLength (b ∷ s) = let n = run isWordByte s in pick (isLetter b) (suc n) 0
 
 -- "every other word is an IDENT"
 unfoldable pub orIdent : ℕ → ℕ
-orIdent zero = ident
+orIdent zero = tokenKind "IDENT"
 orIdent (suc k) = suc k
 
 unfoldable pub wordKind : List ℕ → ℕ
@@ -28,9 +26,7 @@ wordKind w = orIdent (kindOf reserved w)
 
 -- the length of the word at the front where it is an IDENT, else 0
 unfoldable pub identLength : List ℕ → ℕ
-identLength s =
-    let n = wordLength s in
-    pick (eqb (wordKind (take n s)) ident) n 0
+identLength s = let n = wordLength s in pick (eqb (wordKind (take n s)) (tokenKind "IDENT")) n 0
 
 -- whether two colons stand at the front
 unfoldable pub twoColons : List ℕ → Bool

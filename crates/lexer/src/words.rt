@@ -7,7 +7,7 @@ use crate::runs;
 ghost use mathlib.Core.Path.{_≡_};
 ghost use Prim.Native.Nat.{_+_, _-_, _≤_};
 ghost use lib.ListN.{drop};
-ghost use Rattle.lexer.specs.Kinds.{ident};
+ghost use Rattle.lexer.specs.internal.Kinds.{ident};
 ghost use Rattle.lexer.specs.Words.{wordLength, identLength, twoColons, joins};
 ghost use Rattle.lexer.specs.Lexemes.{word};
 

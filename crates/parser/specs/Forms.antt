@@ -2,8 +2,8 @@
 use Prim.Native.Nat.{ℕ}
 use lib.Dec.{eqb}
 use Rattle.lexer.specs.Tests.{pick}
-use Rattle.grammar.specs.RowKinds.{pointerRow, optionalRow, sliceTypeRow, resultRow, binaryRow, notRow, returnRow, complementRow}
-use Rattle.grammar.specs.RowKinds.{conditionalRow, memberRow}
+use Rattle.grammar.specs.internal.RowKinds.{pointerRow, optionalRow, sliceTypeRow, resultRow, binaryRow, notRow, returnRow, complementRow}
+use Rattle.grammar.specs.internal.RowKinds.{conditionalRow, memberRow}
 use Rattle.grammar.specs.Forms.{pointerType, optionalType, sliceType, resultType, binaryExpression, notExpression, returnExpression}
 use Rattle.grammar.specs.Forms.{complementExpression, conditionalExpression, memberExpression}
 

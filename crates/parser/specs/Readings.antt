@@ -10,7 +10,7 @@ use Rattle.typenames.specs.declared.Scope.{Scope}
 use Rattle.grammar.specs.Grammars.{Symbol, part, Production, Names, View}
 use Rattle.grammar.specs.Rows.{Row}
 use Rattle.grammar.specs.Reading.{Outcome, ok, stuck, deep, readWithin, whole}
-use Rattle.grammar.specs.Nonterminals.{program}
+use Rattle.grammar.specs.internal.Nonterminals.{program}
 use Rattle.grammar.specs.Nurl.{productions}
 use Rattle.grammar.specs.Languages.{language17}
 use Rattle.grammar.specs.Sources.{viewOf}

@@ -6,11 +6,11 @@ use mathlib.Core.List.{List, [], _∷_}
 use lib.Dec.{eqb, ltb}
 use lib.ListN.{drop}
 use Rattle.lexer.specs.Tests.{and, between, pick, among}
-use Rattle.lexer.specs.Kinds.{ident, keyword, boolean, firstKind, lastKind}
+use Rattle.lexer.specs.internal.Kinds.{ident, keyword, boolean, firstKind, lastKind}
 use Rattle.lexer.specs.Table.{sourceLimit, tokenRoom, rowsOf, kindAt}
 use Rattle.typenames.specs.TypeNames.{items}
 use Rattle.grammar.specs.Grammars.{endOfTokens, Condition, Names, asked}
-use Rattle.grammar.specs.Nonterminals.{type}
+use Rattle.grammar.specs.internal.Nonterminals.{type}
 use Rattle.grammar.specs.Questions.{runOf}
 use Rattle.grammar.specs.Nurl.{plainName}
 use Rattle.grammar.specs.Languages.{language17}

@@ -4,9 +4,10 @@ use lexer::kinds;
 use typenames::Scope;
 ghost use mathlib.Core.Path.{_≡_};
 ghost use mathlib.Core.List.{[], _∷_};
-ghost use Rattle.lexer.specs.Kinds.{ident, arrow};
+ghost use Rattle.lexer.specs.internal.Kinds.{ident, arrow};
 ghost use Rattle.grammar.specs.Grammars.{query};
-ghost use Rattle.grammar.specs.Nurl.{plainName, opensStruct, twoNames, opensClosure, zeroOrOne};
+ghost use Rattle.grammar.specs.Nurl.{plainName};
+ghost use Rattle.grammar.specs.internal.Nurl.{opensStruct, twoNames, opensClosure, zeroOrOne};
 ghost use Rattle.parser.specs.Steps.{kindsAt, askedAt, AnswersTexts, AnswersKinds};
 ghost use Rattle.parser.specs.Readings.{namesIn};
 

@@ -7,8 +7,8 @@ ghost use mathlib.Core.Path.{_≡_};
 ghost use mathlib.Core.Bool.{true};
 ghost use Rattle.lexer.specs.Tests.{pick, among};
 ghost use Rattle.grammar.specs.Grammars.{query};
-ghost use Rattle.grammar.specs.Nonterminals.{moreNames, moreWords, nameList, wordList, typeParameters, typeArguments};
-ghost use Rattle.grammar.specs.Nurl.{opensNames, opensWords};
+ghost use Rattle.grammar.specs.internal.Nonterminals.{moreNames, moreWords, nameList, wordList, typeParameters, typeArguments};
+ghost use Rattle.grammar.specs.internal.Nurl.{opensNames, opensWords};
 ghost use Rattle.parser.specs.Steps.{Tokens, Within, Small, AnswersKinds, wordKinds, WordsEnd, takenWord};
 ghost use Rattle.parser.specs.Readings.{ReadsKinds, ReadsNoRows};
 

@@ -5,7 +5,7 @@ use mathlib.Core.List.{List, [], _∷_}
 use lib.Dec.{eqb, ltb}
 use lib.ListN.{drop}
 use Rattle.lexer.specs.Tests.{and, pick, among}
-use Rattle.lexer.specs.Kinds.{ident, colon, bar}
+use Rattle.lexer.specs.internal.Kinds.{ident, colon, bar}
 use Rattle.lexer.specs.Table.{tokenRoom, rowsOf}
 use Rattle.typenames.specs.TypeNames.{Item, itemAt, items, declared}
 

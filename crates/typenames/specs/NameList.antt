@@ -5,7 +5,7 @@ use mathlib.Core.List.{List, [], _∷_}
 use lib.Dec.{eqb, ltb}
 use lib.ListN.{length}
 use Rattle.lexer.specs.Tests.{and, pick}
-use Rattle.lexer.specs.Kinds.{ident}
+use Rattle.lexer.specs.Kinds.{tokenKind}
 use Rattle.lexer.specs.Editions.{Edition}
 use Rattle.lexer.specs.Lexemes.{lexeme}
 use Rattle.lexer.specs.declared.Lexeme.{Lexeme}
@@ -25,9 +25,7 @@ push b (w ∷ ws) = (b ∷ w) ∷ ws
 -- what the bytes 10 separate: one entry more than there are such bytes
 unfoldable pub split : List ℕ → List (List ℕ)
 split [] = [] ∷ []
-split (b ∷ s) =
-    let rest = split s in
-    pick (eqb b 10) ([] ∷ rest) (push b rest)
+split (b ∷ s) = let rest = split s in pick (eqb b 10) ([] ∷ rest) (push b rest)
 
 -- "separated by one byte 10, empty if none": an empty list has no entry
 unfoldable pub entries : List ℕ → List (List ℕ)
@@ -38,7 +36,7 @@ entries (b ∷ s) = split (b ∷ s)
 unfoldable pub isIdent : ℕ → Lexeme → Bool
 isIdent n End = false
 isIdent n (Skipped m) = false
-isIdent n (Token k m) = and (eqb k ident) (eqb m n)
+isIdent n (Token k m) = and (eqb k (tokenKind "IDENT")) (eqb m n)
 isIdent n BadByte = false
 isIdent n OpenString = false
 
@@ -49,9 +47,7 @@ isName e w = isIdent (length w) (lexeme e w)
 -- refusal 2 at the first byte of the earliest entry that is not a name, the first entry being at an offset
 unfoldable pub firstBad : Edition → ℕ → List (List ℕ) → Checked
 firstBad e at [] = Good
-firstBad e at (w ∷ ws) =
-    let later = firstBad e (at + length w + 1) ws in
-    pick (isName e w) later (Refused 2 at)
+firstBad e at (w ∷ ws) = let later = firstBad e (at + length w + 1) ws in pick (isName e w) later (Refused 2 at)
 
 -- document 01's number and values for each case of the answer, as two numbers: 0 and 0, or the refusal's number and its place
 unfoldable pub checkedValues : Checked → List ℕ

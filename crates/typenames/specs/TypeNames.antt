@@ -5,7 +5,7 @@ use mathlib.Core.List.{List, [], _∷_, _++_}
 use lib.Dec.{eqb}
 use lib.ListN.{take, drop}
 use Rattle.lexer.specs.Tests.{and, or, pick, among}
-use Rattle.lexer.specs.Kinds.{ident, colon, bar, leftBrace, rightBrace, leftBracket}
+use Rattle.lexer.specs.Kinds.{tokenKind}
 use Rattle.lexer.specs.Words.{sameName}
 use Rattle.lexer.specs.Tokens.{Token}
 use Rattle.lexer.specs.Table.{rowAt}
@@ -41,17 +41,17 @@ isNamed (n ∷ ns) w = or (sameName n w) (isNamed ns w)
 -- the third of three tokens, where they are `:` `|` IDENT
 unfoldable pub enumName : Item → Item → Item → List (List ℕ)
 enumName a b c =
-    pick (and (eqb (a .kind) colon) (and (eqb (b .kind) bar) (eqb (c .kind) ident))) (c .text ∷ []) []
+    pick (and (eqb (a .kind) (tokenKind ":")) (and (eqb (b .kind) (tokenKind "|")) (eqb (c .kind) (tokenKind "IDENT")))) (c .text ∷ []) []
 
 -- the second of three tokens, where they are `:` IDENT and one of some kinds; nothing is asked of what follows, so that `: Foo [`
 -- counts without a list after it
 unfoldable pub structName : List ℕ → Item → Item → Item → List (List ℕ)
 structName opening a b c =
-    pick (and (eqb (a .kind) colon) (and (eqb (b .kind) ident) (among opening (c .kind)))) (b .text ∷ []) []
+    pick (and (eqb (a .kind) (tokenKind ":")) (and (eqb (b .kind) (tokenKind "IDENT")) (among opening (c .kind)))) (b .text ∷ []) []
 
 -- "Depth counts `{` and `}` tokens and does not go below zero": the depth after a token
 unfoldable pub deeper : ℕ → ℕ → ℕ
-deeper depth kind = pick (eqb kind leftBrace) (suc depth) (pick (eqb kind rightBrace) (depth - 1) depth)
+deeper depth kind = pick (eqb kind (tokenKind "{")) (suc depth) (pick (eqb kind (tokenKind "}")) (depth - 1) depth)
 
 -- what three tokens declare, the first of them at a depth: "at brace depth zero"; the tokens before the IDENT are not braces
 unfoldable pub namesAt : List ℕ → ℕ → Item → Item → Item → List (List ℕ)
@@ -69,7 +69,7 @@ declared opening depth (a ∷ b ∷ c ∷ ts) =
 
 -- the kinds that can follow a struct's name in grammar 1.7: "before `{` or `[`"
 abbrev pub opening17 : List ℕ
-opening17 = leftBrace ∷ leftBracket ∷ []
+opening17 = tokenKind "{" ∷ tokenKind "[" ∷ []
 
 -- The set N (document 01, "Type names of a source"): "the extra names" and the names declared in the whole token list.
 unfoldable pub typeNames : List ℕ → List (List ℕ) → List Item → List (List ℕ)

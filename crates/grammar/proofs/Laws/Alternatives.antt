@@ -9,7 +9,7 @@ use native.Mathlib.Omega.{arith}
 use lib.Dec.{eqb}
 use borrow.Author.Tests.{eqb-true, ne-eqb, lt-leb}
 use Rattle.lexer.specs.Tests.{and, pick, among}
-use Rattle.lexer.specs.Kinds.{ident, lastKind}
+use Rattle.lexer.specs.internal.Kinds.{ident, lastKind}
 use Rattle.lexer.proofs.Laws.Tests.{and-left, and-right}
 use Rattle.typenames.specs.TypeNames.{Item, isNamed}
 use Rattle.grammar.specs.Grammars.{next, query, Symbol, token, part, condition, Production, Names, View, agrees, asked, met}

@@ -7,27 +7,30 @@ use mathlib.Core.List.{[], _∷_}
 use lib.Dec.{eqb}
 use borrow.Author.Tests.{eqb-true}
 use Rattle.lexer.specs.Tests.{and, or, among}
-use Rattle.lexer.specs.Kinds.{ident, keyword, boolean, sizeof, int, string, dollar, ampersand, at, percent, colon, bar, equal}
-use Rattle.lexer.specs.Kinds.{semicolon, tilde, leftBrace, rightBrace, leftParen, rightParen, leftBracket, rightBracket, bang, caret}
-use Rattle.lexer.specs.Kinds.{backslash, question, dot, hash, star, questionQuestion, arrow}
+use Rattle.lexer.specs.internal.Kinds.{ident, keyword, boolean, sizeof, int, string, dollar, ampersand, at, percent, colon, bar, equal}
+use Rattle.lexer.specs.internal.Kinds.{semicolon, tilde, leftBrace, rightBrace, leftParen, rightParen, leftBracket, rightBracket, bang}
+use Rattle.lexer.specs.internal.Kinds.{caret, backslash, question, dot, hash, star, questionQuestion, arrow}
 use Rattle.lexer.proofs.Laws.Tests.{and-left, and-right}
 use Rattle.grammar.specs.Grammars.{query, token, part, when, unless, row, rowOf, says, noRow, Names, View}
-use Rattle.grammar.specs.RowKinds.{programRow, importRow, foreignRow, traitRow, implRow, functionRow, structRow, enumRow}
-use Rattle.grammar.specs.RowKinds.{constantRow, headerRow, parameterRow, variantRow, listRow, blockRow, letRow, setNameRow}
-use Rattle.grammar.specs.RowKinds.{setElementRow, deferRow, whileRow, foreachRow, literalRow, nameRow, binaryRow, notRow}
-use Rattle.grammar.specs.RowKinds.{returnRow, complementRow, tryRow, closureRow, sizeofRow, aggregateRow, sliceRow}
-use Rattle.grammar.specs.RowKinds.{conditionalRow, callRow, memberRow, castRow, matchRow, armRow, payloadRow, baseTypeRow}
-use Rattle.grammar.specs.RowKinds.{pointerRow, optionalRow, sliceTypeRow, resultRow, functionTypeRow, instanceRow, namedTypeRow}
-use Rattle.grammar.specs.Nonterminals.{program, declarations, declaration, alias, interface, interfaceRest, methods, method, body}
-use Rattle.grammar.specs.Nonterminals.{functions, function, definition, mutable, fields, field, fieldName, parameters, parameter}
-use Rattle.grammar.specs.Nonterminals.{variants, variant, payloadTypes, typeParameters, nameList, moreNames, block, statements}
-use Rattle.grammar.specs.Nonterminals.{statement, binding, assignment, tildeStatement, loopOrComplement, expressions, expression}
-use Rattle.grammar.specs.Nonterminals.{literal, tryOrClosure, typeArguments, wordList, moreWords, castRest, selector, arms, arm}
-use Rattle.grammar.specs.Nonterminals.{payloads3, payloads2, payloads1, payload, types, type, parenthesized, structParameters}
-use Rattle.grammar.specs.Classes.{name, declaredWord, word, typeWord, armHead, payloadToken, literals, operators}
+use Rattle.grammar.specs.internal.RowKinds.{programRow, importRow, foreignRow, traitRow, implRow, functionRow, structRow, enumRow}
+use Rattle.grammar.specs.internal.RowKinds.{constantRow, headerRow, parameterRow, variantRow, listRow, blockRow, letRow}
+use Rattle.grammar.specs.internal.RowKinds.{setNameRow, setElementRow, deferRow, whileRow, foreachRow, literalRow, nameRow}
+use Rattle.grammar.specs.internal.RowKinds.{binaryRow, notRow, returnRow, complementRow, tryRow, closureRow, sizeofRow}
+use Rattle.grammar.specs.internal.RowKinds.{aggregateRow, sliceRow, conditionalRow, callRow, memberRow, castRow, matchRow, armRow}
+use Rattle.grammar.specs.internal.RowKinds.{payloadRow, baseTypeRow, pointerRow, optionalRow, sliceTypeRow, resultRow}
+use Rattle.grammar.specs.internal.RowKinds.{functionTypeRow, instanceRow, namedTypeRow}
+use Rattle.grammar.specs.internal.Nonterminals.{program, declarations, declaration, alias, interface, interfaceRest, methods}
+use Rattle.grammar.specs.internal.Nonterminals.{method, body, functions, function, definition, mutable, fields, field, fieldName}
+use Rattle.grammar.specs.internal.Nonterminals.{parameters, parameter, variants, variant, payloadTypes, typeParameters, nameList}
+use Rattle.grammar.specs.internal.Nonterminals.{moreNames, block, statements, statement, binding, assignment, tildeStatement}
+use Rattle.grammar.specs.internal.Nonterminals.{loopOrComplement, expressions, expression, literal, tryOrClosure, typeArguments}
+use Rattle.grammar.specs.internal.Nonterminals.{wordList, moreWords, castRest, selector, arms, arm, payloads3, payloads2}
+use Rattle.grammar.specs.internal.Nonterminals.{payloads1, payload, types, type, parenthesized, structParameters}
+use Rattle.grammar.specs.internal.Classes.{name, declaredWord, word, payloadToken, literals, operators}
 use Rattle.grammar.specs.Reading.{none, one, choice}
-use Rattle.grammar.specs.Nurl.{one as only, rule, plainName, anyName, aTilde, aBrace, aStar, opensNames, opensWords, opensStruct}
-use Rattle.grammar.specs.Nurl.{twoNames, opensClosure, zeroOrOne, opensStructNames, productions}
+use Rattle.grammar.specs.Nurl.{anyName, plainName, asks, productions}
+use Rattle.grammar.specs.internal.Nurl.{one as only, rule, aTilde, aBrace, aStar, opensNames, opensWords, opensStruct, twoNames}
+use Rattle.grammar.specs.internal.Nurl.{opensClosure, zeroOrOne, opensStructNames}
 use Rattle.grammar.specs.Alternatives.{alternative, nth, kindOf, kindAlternative}
 use Rattle.grammar.proofs.Laws.Checks.{implies, every, below}
 use Rattle.grammar.proofs.Laws.CheckLaws.{below-at}
@@ -569,7 +572,7 @@ pub type-parenthesized : nth type 6 productions ≡ one (rule type rowOf (only l
 unfolding nth productions
 type-parenthesized = refl
 
-pub type-named : nth type 7 productions ≡ one (rule type (row namedTypeRow) (token typeWord ∷ []))
+pub type-named : nth type 7 productions ≡ one (rule type (row namedTypeRow) (token declaredWord ∷ []))
 unfolding nth productions
 type-named = refl
 
@@ -1350,7 +1353,8 @@ module _ (v : View) (e : Names) (j : ℕ) (low : v .class e j < classes) where
   arm-at = plain arm armNumber arm-numbers
 
   pub arm-one : among (ident ∷ boolean ∷ []) k ≡ true
-      → choice productions v e arm j ≡ one (rule arm (row armRow) (token armHead ∷ part payloads3 ∷ only arrow ∷ part expression ∷ []))
+      → choice productions v e arm j ≡
+      one (rule arm (row armRow) (token declaredWord ∷ part payloads3 ∷ only arrow ∷ part expression ∷ []))
   unfolding nth productions
   arm-one h = arm-at ∙ same arm (whether-true 1 0 h)
 

@@ -8,27 +8,30 @@ use lib.Dec.{ltb, leb}
 use lib.ListN.{length, getD}
 use borrow.Author.Tests.{ltb-true}
 use Rattle.lexer.specs.Tests.{and, or, pick, among}
-use Rattle.lexer.specs.Kinds.{keyword, sizeof, string, dollar, ampersand, at, percent, colon, bar, equal, semicolon, tilde, leftBrace}
-use Rattle.lexer.specs.Kinds.{rightBrace, leftParen, rightParen, leftBracket, rightBracket, bang, caret, backslash, question, dot, hash}
-use Rattle.lexer.specs.Kinds.{star, questionQuestion, arrow, lastKind}
+use Rattle.lexer.specs.internal.Kinds.{keyword, sizeof, string, dollar, ampersand, at, percent, colon, bar, equal, semicolon, tilde}
+use Rattle.lexer.specs.internal.Kinds.{leftBrace, rightBrace, leftParen, rightParen, leftBracket, rightBracket, bang, caret, backslash}
+use Rattle.lexer.specs.internal.Kinds.{question, dot, hash, star, questionQuestion, arrow, lastKind}
 use Rattle.grammar.specs.Grammars.{query, token, part, when, unless, row, rowOf, says, noRow, Production, agrees, asked, met}
-use Rattle.grammar.specs.RowKinds.{programRow, importRow, foreignRow, traitRow, implRow, functionRow, structRow, enumRow}
-use Rattle.grammar.specs.RowKinds.{constantRow, headerRow, parameterRow, variantRow, listRow, blockRow, letRow, setNameRow}
-use Rattle.grammar.specs.RowKinds.{setElementRow, deferRow, whileRow, foreachRow, literalRow, nameRow, binaryRow, notRow}
-use Rattle.grammar.specs.RowKinds.{returnRow, complementRow, tryRow, closureRow, sizeofRow, aggregateRow, sliceRow}
-use Rattle.grammar.specs.RowKinds.{conditionalRow, callRow, memberRow, castRow, matchRow, armRow, payloadRow, baseTypeRow}
-use Rattle.grammar.specs.RowKinds.{pointerRow, optionalRow, sliceTypeRow, resultRow, functionTypeRow, instanceRow, namedTypeRow}
-use Rattle.grammar.specs.Nonterminals.{program, declarations, declaration, alias, interface, interfaceRest, methods, method, body}
-use Rattle.grammar.specs.Nonterminals.{functions, function, definition, mutable, fields, field, fieldName, parameters, parameter}
-use Rattle.grammar.specs.Nonterminals.{variants, variant, payloadTypes, typeParameters, nameList, moreNames, block, statements}
-use Rattle.grammar.specs.Nonterminals.{statement, binding, assignment, tildeStatement, loopOrComplement, expressions, expression}
-use Rattle.grammar.specs.Nonterminals.{literal, tryOrClosure, typeArguments, wordList, moreWords, castRest, selector, arms, arm}
-use Rattle.grammar.specs.Nonterminals.{payloads3, payloads2, payloads1, payload, types, type, parenthesized, structParameters}
-use Rattle.grammar.specs.Classes.{name, declaredWord, word, typeWord, armHead, payloadToken, literals, operators}
+use Rattle.grammar.specs.internal.RowKinds.{programRow, importRow, foreignRow, traitRow, implRow, functionRow, structRow, enumRow}
+use Rattle.grammar.specs.internal.RowKinds.{constantRow, headerRow, parameterRow, variantRow, listRow, blockRow, letRow}
+use Rattle.grammar.specs.internal.RowKinds.{setNameRow, setElementRow, deferRow, whileRow, foreachRow, literalRow, nameRow}
+use Rattle.grammar.specs.internal.RowKinds.{binaryRow, notRow, returnRow, complementRow, tryRow, closureRow, sizeofRow}
+use Rattle.grammar.specs.internal.RowKinds.{aggregateRow, sliceRow, conditionalRow, callRow, memberRow, castRow, matchRow, armRow}
+use Rattle.grammar.specs.internal.RowKinds.{payloadRow, baseTypeRow, pointerRow, optionalRow, sliceTypeRow, resultRow}
+use Rattle.grammar.specs.internal.RowKinds.{functionTypeRow, instanceRow, namedTypeRow}
+use Rattle.grammar.specs.internal.Nonterminals.{program, declarations, declaration, alias, interface, interfaceRest, methods}
+use Rattle.grammar.specs.internal.Nonterminals.{method, body, functions, function, definition, mutable, fields, field, fieldName}
+use Rattle.grammar.specs.internal.Nonterminals.{parameters, parameter, variants, variant, payloadTypes, typeParameters, nameList}
+use Rattle.grammar.specs.internal.Nonterminals.{moreNames, block, statements, statement, binding, assignment, tildeStatement}
+use Rattle.grammar.specs.internal.Nonterminals.{loopOrComplement, expressions, expression, literal, tryOrClosure, typeArguments}
+use Rattle.grammar.specs.internal.Nonterminals.{wordList, moreWords, castRest, selector, arms, arm, payloads3, payloads2}
+use Rattle.grammar.specs.internal.Nonterminals.{payloads1, payload, types, type, parenthesized, structParameters}
+use Rattle.grammar.specs.internal.Classes.{name, declaredWord, word, payloadToken, literals, operators}
 use Rattle.grammar.specs.First.{allows, skips, starts, anyOf}
 use Rattle.grammar.specs.Reading.{ready}
-use Rattle.grammar.specs.Nurl.{one, rule, plainName, anyName, aTilde, aBrace, aStar, opensNames, opensWords, opensStruct}
-use Rattle.grammar.specs.Nurl.{twoNames, opensClosure, zeroOrOne, opensStructNames, productions}
+use Rattle.grammar.specs.Nurl.{anyName, plainName, productions}
+use Rattle.grammar.specs.internal.Nurl.{one, rule, aTilde, aBrace, aStar, opensNames, opensWords, opensStruct, twoNames}
+use Rattle.grammar.specs.internal.Nurl.{opensClosure, zeroOrOne, opensStructNames}
 use Rattle.grammar.specs.Alternatives.{numberOf, numberElse, alternative, kindAlternative}
 use Rattle.grammar.proofs.Laws.Groups.{ofPart, emptyBy, firstBy, alternativeBy, alternative-same, same-values, listed, listed-at}
 
@@ -130,7 +133,7 @@ groupList =
     rule selector noRow (unless (query zeroOrOne) ∷ []) ∷ []) ∷
     (rule arms noRow (part arm ∷ part arms ∷ []) ∷
     rule arms noRow [] ∷ []) ∷
-    (rule arm (row armRow) (token armHead ∷ part payloads3 ∷ one arrow ∷ part expression ∷ []) ∷ []) ∷
+    (rule arm (row armRow) (token declaredWord ∷ part payloads3 ∷ one arrow ∷ part expression ∷ []) ∷ []) ∷
     (rule payloads3 noRow (part payload ∷ part payloads2 ∷ []) ∷
     rule payloads3 noRow [] ∷ []) ∷
     (rule payloads2 noRow (part payload ∷ part payloads1 ∷ []) ∷
@@ -146,7 +149,7 @@ groupList =
     rule type (row sliceTypeRow) (one leftBracket ∷ part type ∷ []) ∷
     rule type (row resultRow) (one bang ∷ part type ∷ part type ∷ []) ∷
     rule type rowOf (one leftParen ∷ part parenthesized ∷ []) ∷
-    rule type (row namedTypeRow) (token typeWord ∷ []) ∷ []) ∷
+    rule type (row namedTypeRow) (token declaredWord ∷ []) ∷ []) ∷
     (rule parenthesized (says functionTypeRow) (one at ∷ part type ∷ part types ∷ one rightParen ∷ []) ∷
     rule parenthesized (says instanceRow) (token name ∷ token word ∷ part moreWords ∷ one rightParen ∷ []) ∷ []) ∷
     (rule structParameters noRow (when (query opensStructNames) ∷ part nameList ∷ []) ∷

@@ -9,15 +9,17 @@ use lib.Dec.{eqb}
 use lib.ListN.{length}
 use Rattle.lexer.specs.Tests.{and, or, pick, among}
 use Rattle.lexer.specs.Spellings.{same}
-use Rattle.lexer.specs.Kinds.{ident, keyword, int, tilde, leftBrace, leftBracket, star}
+use Rattle.lexer.specs.internal.Kinds.{ident, keyword, int, tilde, leftBrace, leftBracket, star}
 use Rattle.grammar.specs.Grammars.{Condition, next, query, Symbol, token, part, condition, when, unless, Production, agrees}
 use Rattle.grammar.specs.First.{allows, skips, starts, anyOf, emptyWithin, firstWithin, empty, first, canBegin, canSkip}
 use Rattle.grammar.specs.Classes.{typeName}
-use Rattle.grammar.specs.Nonterminals.{definition, fieldName, variant, payloadTypes, typeParameters, statement, binding}
-use Rattle.grammar.specs.Nonterminals.{tildeStatement, loopOrComplement, tryOrClosure, typeArguments, castRest, selector}
-use Rattle.grammar.specs.Nonterminals.{structParameters}
-use Rattle.grammar.specs.Nurl.{plainName, anyName, aTilde, aBrace, aStar, opensNames, opensWords, opensStruct, twoNames}
-use Rattle.grammar.specs.Nurl.{opensClosure, zeroOrOne, opensStructNames, productions}
+use Rattle.grammar.specs.internal.Nonterminals.{definition, fieldName, variant, payloadTypes, typeParameters, statement, binding}
+use Rattle.grammar.specs.internal.Nonterminals.{tildeStatement, loopOrComplement, tryOrClosure, typeArguments, castRest, selector}
+use Rattle.grammar.specs.internal.Nonterminals.{structParameters}
+use Rattle.grammar.specs.Nurl.{plainName, anyName}
+use Rattle.grammar.specs.internal.Nurl.{aTilde, aBrace, aStar, opensNames, opensWords, opensStruct, twoNames}
+use Rattle.grammar.specs.Nurl.{productions}
+use Rattle.grammar.specs.internal.Nurl.{opensClosure, zeroOrOne, opensStructNames}
 use Rattle.grammar.proofs.Laws.Checks.{implies, every, may, flows, followClosed, live, asks, opposed, excludes, exclusive}
 use Rattle.grammar.proofs.Laws.Table17.{hints17}
 

@@ -5,7 +5,7 @@ use mathlib.Core.List.{List}
 use Rattle.lexer.specs.Editions.{edition17}
 use Rattle.lexer.specs.Tokens.{Token, cleanly, scan}
 use Rattle.lexer.proofs.Laws.Counts.{spelled17}
-use Rattle.grammar.specs.RowKinds.{programRow, namedTypeRow}
+use Rattle.grammar.specs.internal.RowKinds.{programRow, namedTypeRow}
 use Rattle.grammar.specs.Languages.{language17}
 use Rattle.grammar.specs.Answers.{levelLimit, answer17}
 use Rattle.grammar.specs.Demands.{MeetsDemands}

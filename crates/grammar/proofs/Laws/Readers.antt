@@ -5,13 +5,13 @@ use mathlib.Core.List.{List, [], _∷_, _++_}
 use native.Mathlib.Omega.{arith}
 use lib.ListN.{length, take, drop, getD}
 use Rattle.lexer.specs.Text.{bytes}
-use Rattle.lexer.specs.Kinds.{ident, keyword, int, colon}
+use Rattle.lexer.specs.internal.Kinds.{colon}
 use Rattle.lexer.specs.Editions.{edition17}
 use Rattle.lexer.specs.Tokens.{Token, cleanly, scan}
 use Rattle.lexer.specs.Table.{tokenRow, tokenRows, filled}
 use Rattle.lexer.proofs.Laws.Examples.{scans}
 use Rattle.lexer.proofs.Laws.Scans.{found-once}
-use Rattle.grammar.specs.RowKinds.{programRow, functionRow}
+use Rattle.grammar.specs.internal.RowKinds.{functionRow}
 use Rattle.grammar.specs.TreeTable.{treeWidth, placed, cleared}
 use Rattle.grammar.specs.Languages.{language17}
 use Rattle.grammar.specs.Answers.{Result, answer17}
@@ -32,7 +32,7 @@ unfolding bytes
 two = bytes ": Foo { } @ g → v { }"
 
 abbrev floorTokens : List Token
-floorTokens = token colon 0 1 ∷ token keyword 2 1 ∷ token ident 4 5 ∷ token int 10 3 ∷ []
+floorTokens = token ":" 0 1 ∷ token "keyword" 2 1 ∷ token "IDENT" 4 5 ∷ token "INT" 10 3 ∷ []
 
 empty-accepted : answer17 [] [] lentTokens lentRows .answer ≡ Accepted 0 1
 unfolding answersTo
@@ -74,7 +74,7 @@ refuses-all-violates meets =
 -- one that answers M1 for every source violates `accepted`, by its token count
 abbrev answersM1 : Reader
 answersM1 source names tokens rows =
-    record { answer = Accepted 0 1; tokens = tokens; rows = placed (node programRow 0 0 1 ∷ []) rows }
+    record { answer = Accepted 0 1; tokens = tokens; rows = placed (node "program" 0 0 1 ∷ []) rows }
 
 pub answers-M1-violates : MeetsDemands answersM1 → ⊥
 answers-M1-violates meets =

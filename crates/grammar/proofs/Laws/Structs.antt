@@ -10,18 +10,20 @@ use lib.Dec.{eqb}
 use lib.ListN.{getD}
 use borrow.Author.Tests.{eqb-true, eq-eqb, ne-eqb}
 use Rattle.lexer.specs.Tests.{and, or, pick, among}
-use Rattle.lexer.specs.Kinds.{ident, leftBrace, leftBracket, lastKind}
+use Rattle.lexer.specs.internal.Kinds.{ident, leftBrace, leftBracket, lastKind}
 use Rattle.lexer.proofs.Laws.Tests.{or-false, and-left, or-left, or-right}
 use Rattle.typenames.specs.TypeNames.{Item, opening17, isNamed}
 use Rattle.grammar.specs.Grammars.{query, Symbol, token, part, condition, when, unless, row, noRow, Production, Names}
 use Rattle.grammar.specs.Grammars.{View, agrees, asked, met}
 use Rattle.grammar.specs.Rows.{Row}
 use Rattle.grammar.specs.Derivations.{Has, here, there, Derives, end, taken, held, entered}
-use Rattle.grammar.specs.RowKinds.{namedTypeRow}
-use Rattle.grammar.specs.Nonterminals.{mutable, nameList, type, structParameters}
-use Rattle.grammar.specs.Classes.{typeName, name, typeWord}
+use Rattle.grammar.specs.internal.RowKinds.{namedTypeRow}
+use Rattle.grammar.specs.internal.Nonterminals.{mutable, nameList, type, structParameters}
+use Rattle.grammar.specs.Classes.{typeName}
+use Rattle.grammar.specs.internal.Classes.{name, typeWord}
 use Rattle.grammar.specs.Questions.{oneOf, fits, fitsOne, answerTo}
-use Rattle.grammar.specs.Nurl.{one, rule, opensStruct, opensStructNames, questions17, productions}
+use Rattle.grammar.specs.Nurl.{questions17, productions}
+use Rattle.grammar.specs.internal.Nurl.{one, rule, opensStruct, opensStructNames}
 use Rattle.grammar.specs.Languages.{Language, language17, noItem, classOf, view}
 use Rattle.grammar.proofs.Laws.Views.{Kinds, kinds-none, kinds-more}
 use Rattle.grammar.proofs.Laws.Patterns.{among-one, fits-at}

@@ -7,20 +7,21 @@ use mathlib.Core.List.{List, [], _∷_}
 use native.Mathlib.Omega.{arith}
 use lib.Dec.{eqb}
 use Rattle.lexer.specs.Tests.{and, or, between, pick, among}
-use Rattle.lexer.specs.Kinds.{ident, keyword, boolean, dollar, ampersand, at, percent, colon, rightBrace, leftParen, rightParen}
-use Rattle.lexer.specs.Kinds.{leftBracket, rightBracket, bang, question, star, arrow}
+use Rattle.lexer.specs.internal.Kinds.{ident, keyword, boolean, dollar, ampersand, at, percent, colon, rightBrace, leftParen, rightParen}
+use Rattle.lexer.specs.internal.Kinds.{leftBracket, rightBracket, bang, question, star, arrow}
 use Rattle.grammar.specs.Grammars.{endOfTokens, agrees, Names, Production}
-use Rattle.grammar.specs.RowKinds.{programRow, namedTypeRow}
+use Rattle.grammar.specs.internal.RowKinds.{programRow, namedTypeRow}
 use Rattle.grammar.specs.Rows.{levels}
 use Rattle.grammar.specs.First.{allows, skips, starts, anyOf, emptyWithin, firstWithin, empty, first, canBegin, canSkip}
 use Rattle.grammar.specs.Reading.{breadth, whole}
 use Rattle.grammar.specs.Classes.{typeName}
-use Rattle.grammar.specs.Nonterminals.{interface, function, program, declarations, declaration, alias, methods, method, body}
-use Rattle.grammar.specs.Nonterminals.{functions, definition, mutable, fields, parameters, variants, variant, payloadTypes}
-use Rattle.grammar.specs.Nonterminals.{fieldName, typeParameters, moreNames, statements, loopOrComplement, expressions}
-use Rattle.grammar.specs.Nonterminals.{typeArguments, moreWords, selector, arms, payloads3, payloads2, payloads1, types, type}
-use Rattle.grammar.specs.Nonterminals.{interfaceRest, field, parameter, statement, binding, tildeStatement, expression}
-use Rattle.grammar.specs.Nonterminals.{tryOrClosure, castRest, assignment, parenthesized, structParameters}
+use Rattle.grammar.specs.internal.Nonterminals.{interface, function, program, declarations, declaration, alias, methods, method}
+use Rattle.grammar.specs.internal.Nonterminals.{body, functions, definition, mutable, fields, parameters, variants, variant}
+use Rattle.grammar.specs.internal.Nonterminals.{payloadTypes, fieldName, typeParameters, moreNames, statements, loopOrComplement}
+use Rattle.grammar.specs.internal.Nonterminals.{expressions, typeArguments, moreWords, selector, arms, payloads3, payloads2}
+use Rattle.grammar.specs.internal.Nonterminals.{payloads1, types, type, interfaceRest, field, parameter, statement, binding}
+use Rattle.grammar.specs.internal.Nonterminals.{tildeStatement, expression, tryOrClosure, castRest, assignment, parenthesized}
+use Rattle.grammar.specs.internal.Nonterminals.{structParameters}
 use Rattle.grammar.specs.Nurl.{productions}
 use Rattle.grammar.specs.Languages.{language17, view}
 use Rattle.typenames.specs.TypeNames.{Item}

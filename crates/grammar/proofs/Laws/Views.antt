@@ -8,7 +8,7 @@ use native.Mathlib.Omega.{arith}
 use lib.Dec.{eqb}
 use lib.ListN.{length, getD}
 use Rattle.lexer.specs.Tests.{and, pick}
-use Rattle.lexer.specs.Kinds.{ident, firstKind, lastKind}
+use Rattle.lexer.specs.internal.Kinds.{ident, firstKind, lastKind}
 use Rattle.lexer.specs.Editions.{Edition}
 use Rattle.lexer.specs.Tokens.{Token}
 use Rattle.lexer.proofs.Laws.Places.{Placed, placed-none, placed-more}

@@ -11,7 +11,7 @@ use borrow.Author.Tests.{ne-eqb, lt-ltb, le-ltb}
 use lib.ListN.{length, drop, getD, length-drop}
 use lib.Seq.{drop-drop}
 use Rattle.lexer.specs.Tests.{and, or, pick}
-use Rattle.lexer.specs.Kinds.{ident, string, minus, slash}
+use Rattle.lexer.specs.internal.Kinds.{ident, string, minus, slash}
 use Rattle.lexer.specs.Bytes.{isSpace, isDigit, isLetter, isInLine, isInString, run, beginsEither}
 use Rattle.lexer.specs.Spellings.{same, kindOf, longest, commonMarks, shiftMarks}
 use Rattle.lexer.specs.Editions.{Edition, edition17}

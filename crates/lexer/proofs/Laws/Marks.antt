@@ -8,7 +8,7 @@ use lib.ListN.{length, drop, getD}
 use lib.Seq.{getD-drop}
 use borrow.Author.Tests.{ne-eqb}
 use Rattle.lexer.specs.Tests.{and}
-use Rattle.lexer.specs.Kinds.{arrow}
+use Rattle.lexer.specs.internal.Kinds.{arrow}
 use Rattle.lexer.specs.Spellings.{same, kindOf, longest, commonMarks, shiftMarks}
 use Rattle.lexer.specs.Editions.{edition17}
 use Rattle.lexer.specs.Lexemes.{markOf, markUpTo, mark}

@@ -10,7 +10,7 @@ use lib.ListN.{length, drop}
 use lib.Seq.{drop-drop}
 use Rattle.lexer.specs.Bytes.{beginsEither}
 use Rattle.lexer.specs.Numbers.{digits, withDigits, fraction, sign, exponent}
-use Rattle.lexer.specs.Kinds.{int, float}
+use Rattle.lexer.specs.internal.Kinds.{int, float}
 use Rattle.lexer.specs.Lexemes.{numberOf, unsignedNumber}
 use Rattle.lexer.specs.declared.Lexeme.the-variants.{Token, BadByte}
 use Rattle.lexer.proofs.Laws.Tests.{pick-same}

@@ -8,7 +8,7 @@ use mathlib.Core.Logic.{_⊎_, inl, inr}
 use native.Mathlib.Nat.{le-refl, le-trans}
 use native.Mathlib.Omega.{arith}
 use lib.ListN.{length, drop, length-drop, drop-of-length-le}
-use Rattle.lexer.specs.Kinds.{firstKind, lastKind}
+use Rattle.lexer.specs.internal.Kinds.{firstKind, lastKind}
 use Rattle.lexer.specs.Editions.{Edition}
 use Rattle.lexer.specs.Lexemes.{lexeme}
 use Rattle.lexer.specs.Tokens.{Token, Ending, clean, fault, Scan, cleanly, withToken, scan}

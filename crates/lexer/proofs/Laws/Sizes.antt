@@ -11,7 +11,7 @@ use lib.Dec.{eqb, ltb, leb}
 use lib.ListN.{length, take, drop, length-drop, length-take}
 use borrow.Author.Tests.{ltb-true, leb-true}
 use Rattle.lexer.specs.Tests.{and, or, pick}
-use Rattle.lexer.specs.Kinds.{ident, int, float, string, firstKind, lastKind}
+use Rattle.lexer.specs.internal.Kinds.{ident, int, float, string, firstKind, lastKind}
 use Rattle.lexer.specs.Bytes.{isSpace, isDigit, isInLine, isInString, run, beginsEither}
 use Rattle.lexer.specs.Spellings.{Spelling, same, kindOf, longest, reserved}
 use Rattle.lexer.specs.Editions.{Edition}

@@ -11,7 +11,7 @@ use lib.ListN.{length, take, drop, getD, length-drop}
 use lib.Seq.{drop-drop}
 use borrow.Author.Tests.{lt-ltb, ne-eqb}
 use Rattle.lexer.specs.Tests.{and, pick}
-use Rattle.lexer.specs.Kinds.{ident}
+use Rattle.lexer.specs.internal.Kinds.{ident}
 use Rattle.lexer.specs.Bytes.{isLetter, isWordByte, run}
 use Rattle.lexer.specs.Spellings.{same, kindOf, reserved}
 use Rattle.lexer.specs.Words.{wordLength, orIdent, wordKind, identLength, twoColons, joinsWithin, joins}

@@ -10,7 +10,7 @@ use lib.ListN.{length, take, getD, length-append}
 use lib.Seq.{length-take-le, take-at}
 use borrow.Author.Tests.{le-leb, lt-leb}
 use Rattle.lexer.specs.Tests.{and, between}
-use Rattle.lexer.specs.Kinds.{firstKind, lastKind}
+use Rattle.lexer.specs.internal.Kinds.{firstKind, lastKind}
 use Rattle.lexer.specs.Editions.{edition17}
 use Rattle.lexer.specs.Tokens.{Token, cleanly, scan}
 use Rattle.lexer.specs.Table.{sourceLimit, tokenRoom, rowsOf, rowAt, noToken}
@@ -23,7 +23,7 @@ use Rattle.typenames.specs.declared.Scope.the-variants.{Program}
 use Rattle.grammar.specs.Grammars.{Names, View}
 use Rattle.grammar.specs.Rows.{Row}
 use Rattle.grammar.specs.Reading.{Outcome, ok, stuck, deep, spent, whole}
-use Rattle.grammar.specs.Nonterminals.{program}
+use Rattle.grammar.specs.internal.Nonterminals.{program}
 use Rattle.grammar.specs.Nurl.{productions}
 use Rattle.grammar.specs.Languages.{language17}
 use Rattle.grammar.specs.Sources.{viewOf, namesOf, readTokens}

@@ -15,7 +15,7 @@ use Rattle.grammar.specs.Grammars.{Condition, Symbol, token, part, condition, M
 use Rattle.grammar.specs.Grammars.{View, met}
 use Rattle.grammar.specs.Rows.{Row, above, made, passed, firstSaid, levels}
 use Rattle.grammar.specs.Reading.{Outcome, ok, stuck, deep, spent, none, one, choice, onward}
-use Rattle.grammar.specs.Nurl.{rule}
+use Rattle.grammar.specs.internal.Nurl.{rule}
 use Rattle.parser.specs.Trees.{put, putRow}
 use Rattle.parser.specs.Readings.{Gives, Reads, read, refused6, refused7}
 use Rattle.parser.specs.Readings as readings

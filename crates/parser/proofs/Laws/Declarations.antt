@@ -7,17 +7,17 @@ use native.Mathlib.Omega.{arith}
 use lib.Dec.{eqb, leb}
 use borrow.Author.Tests.{eqb-true, eq-eqb}
 use Rattle.lexer.specs.Tests.{and, between}
-use Rattle.lexer.specs.Kinds.{ident, string, at, percent, arrow}
+use Rattle.lexer.specs.internal.Kinds.{ident, string, at, percent, arrow}
 use Rattle.lexer.specs.Table.{tokenRoom, rowsOf}
 use Rattle.grammar.specs.Grammars.{Symbol, token, part, Makes, row, rowOf, Names, View}
 use Rattle.grammar.specs.Rows.{levels}
 use Rattle.grammar.specs.Reading.{one, choice}
-use Rattle.grammar.specs.RowKinds.{importRow, foreignRow, functionRow}
-use Rattle.grammar.specs.Nonterminals.{declarations, declaration, interface, interfaceRest, function, fields, typeParameters}
-use Rattle.grammar.specs.Nonterminals.{parameters, type, block}
-use Rattle.grammar.specs.Classes.{name}
-use Rattle.grammar.specs.Nurl.{rule, productions}
-use Rattle.grammar.specs.Nurl.{one as only}
+use Rattle.grammar.specs.internal.RowKinds.{importRow, foreignRow, functionRow}
+use Rattle.grammar.specs.internal.Nonterminals.{declarations, declaration, interface, interfaceRest, function, fields, typeParameters}
+use Rattle.grammar.specs.internal.Nonterminals.{parameters, type, block}
+use Rattle.grammar.specs.internal.Classes.{name}
+use Rattle.grammar.specs.Nurl.{productions}
+use Rattle.grammar.specs.internal.Nurl.{rule, one as only}
 use Rattle.grammar.specs.Languages.{language17}
 use Rattle.grammar.specs.Sources.{viewOf}
 use Rattle.grammar.specs.Alternatives.{kindOf, kindAlternative, nth}

@@ -8,19 +8,19 @@ use native.Mathlib.Omega.{arith}
 use lib.Dec.{eqb}
 use borrow.Author.Tests.{eqb-true}
 use Rattle.lexer.specs.Tests.{and, between}
-use Rattle.lexer.specs.Kinds.{ident, bar, tilde, leftBrace, rightBrace}
+use Rattle.lexer.specs.internal.Kinds.{ident, bar, tilde, leftBrace, rightBrace}
 use Rattle.lexer.specs.Table.{tokenRoom, rowsOf, kindAt}
 use Rattle.lexer.proofs.Laws.Tests.{and-left}
 use Rattle.grammar.specs.Grammars.{Condition, query, Symbol, token, part, when, unless, Makes, row, rowOf, says, noRow, Names, View}
 use Rattle.grammar.specs.Grammars.{asked}
 use Rattle.grammar.specs.Rows.{levels}
 use Rattle.grammar.specs.Reading.{one, choice}
-use Rattle.grammar.specs.RowKinds.{structRow, enumRow, constantRow, variantRow}
-use Rattle.grammar.specs.Nonterminals.{declaration, definition, mutable, fields, variants, variant, payloadTypes, typeParameters}
-use Rattle.grammar.specs.Nonterminals.{literal, type, structParameters}
-use Rattle.grammar.specs.Classes.{name}
-use Rattle.grammar.specs.Nurl.{rule, productions, opensStruct, plainName}
-use Rattle.grammar.specs.Nurl.{one as only}
+use Rattle.grammar.specs.internal.RowKinds.{structRow, enumRow, constantRow, variantRow}
+use Rattle.grammar.specs.internal.Nonterminals.{declaration, definition, mutable, fields, variants, variant, payloadTypes, typeParameters}
+use Rattle.grammar.specs.internal.Nonterminals.{literal, type, structParameters}
+use Rattle.grammar.specs.internal.Classes.{name}
+use Rattle.grammar.specs.Nurl.{productions, plainName}
+use Rattle.grammar.specs.internal.Nurl.{rule, opensStruct, one as only}
 use Rattle.grammar.specs.Languages.{language17}
 use Rattle.grammar.specs.Sources.{viewOf}
 use Rattle.grammar.specs.Alternatives.{kindOf, kindAlternative, nth}

@@ -9,20 +9,20 @@ use lib.Dec.{eqb, leb, ltb}
 use lib.ListN.{replicate}
 use borrow.Author.Tests.{eqb-true, eq-eqb, ne-eqb, lt-ltb, ltb-true}
 use Rattle.lexer.specs.Tests.{and, or, between, among}
-use Rattle.lexer.specs.Kinds.{ident, int, bar, at, leftBrace, rightBrace, leftParen, rightParen, rightBracket, star, arrow}
+use Rattle.lexer.specs.internal.Kinds.{ident, int, bar, at, leftBrace, rightBrace, leftParen, rightParen, rightBracket, star, arrow}
 use Rattle.lexer.specs.Table.{tokenRoom, rowsOf, kindAt}
 use Rattle.lexer.proofs.Laws.Tests.{and-left, or-else}
 use Rattle.grammar.specs.Grammars.{query, Symbol, token, part, when, unless, Makes, row, rowOf, says, noRow}
 use Rattle.grammar.specs.Grammars.{Production, Names, View, asked, met}
 use Rattle.grammar.specs.Rows.{levels}
 use Rattle.grammar.specs.Reading.{deep, none, one, choice}
-use Rattle.grammar.specs.RowKinds.{literalRow, nameRow, tryRow, closureRow, sizeofRow, aggregateRow, sliceRow, callRow, castRow, matchRow}
-use Rattle.grammar.specs.RowKinds.{blockRow}
-use Rattle.grammar.specs.Nonterminals.{parameters, block, statements, expressions, expression, literal, tryOrClosure, typeArguments}
-use Rattle.grammar.specs.Nonterminals.{castRest, selector, arms, type}
-use Rattle.grammar.specs.Classes.{literals}
-use Rattle.grammar.specs.Nurl.{rule, aStar, opensClosure, zeroOrOne, productions}
-use Rattle.grammar.specs.Nurl.{one as only}
+use Rattle.grammar.specs.internal.RowKinds.{literalRow, nameRow, tryRow, closureRow, sizeofRow, aggregateRow, sliceRow, callRow, castRow}
+use Rattle.grammar.specs.internal.RowKinds.{matchRow, blockRow}
+use Rattle.grammar.specs.internal.Nonterminals.{parameters, block, statements, expressions, expression, literal, tryOrClosure}
+use Rattle.grammar.specs.internal.Nonterminals.{typeArguments, castRest, selector, arms, type}
+use Rattle.grammar.specs.internal.Classes.{literals}
+use Rattle.grammar.specs.Nurl.{productions}
+use Rattle.grammar.specs.internal.Nurl.{rule, aStar, opensClosure, zeroOrOne, one as only}
 use Rattle.grammar.specs.Languages.{language17}
 use Rattle.grammar.specs.Sources.{viewOf}
 use Rattle.grammar.specs.Alternatives.{kindOf, kindAlternative, nth}

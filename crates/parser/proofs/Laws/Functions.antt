@@ -7,17 +7,17 @@ use native.Mathlib.Omega.{arith}
 use lib.Dec.{eqb}
 use borrow.Author.Tests.{eqb-true}
 use Rattle.lexer.specs.Tests.{and, between}
-use Rattle.lexer.specs.Kinds.{ident, at, percent, leftBrace, rightBrace, arrow}
+use Rattle.lexer.specs.internal.Kinds.{ident, at, percent, leftBrace, rightBrace, arrow}
 use Rattle.lexer.specs.Table.{tokenRoom, rowsOf}
 use Rattle.grammar.specs.Grammars.{Symbol, token, part, Makes, row, rowOf, says, noRow, Names, View}
 use Rattle.grammar.specs.Rows.{levels}
 use Rattle.grammar.specs.Reading.{one, choice}
-use Rattle.grammar.specs.RowKinds.{traitRow, implRow, functionRow, headerRow}
-use Rattle.grammar.specs.Nonterminals.{declaration, interface, interfaceRest, methods, method, body, functions, function, parameters}
-use Rattle.grammar.specs.Nonterminals.{typeParameters, block, type}
-use Rattle.grammar.specs.Classes.{name}
-use Rattle.grammar.specs.Nurl.{rule, productions}
-use Rattle.grammar.specs.Nurl.{one as only}
+use Rattle.grammar.specs.internal.RowKinds.{traitRow, implRow, functionRow, headerRow}
+use Rattle.grammar.specs.internal.Nonterminals.{declaration, interface, interfaceRest, methods, method, body, functions, function}
+use Rattle.grammar.specs.internal.Nonterminals.{parameters, typeParameters, block, type}
+use Rattle.grammar.specs.internal.Classes.{name}
+use Rattle.grammar.specs.Nurl.{productions}
+use Rattle.grammar.specs.internal.Nurl.{rule, one as only}
 use Rattle.grammar.specs.Languages.{language17}
 use Rattle.grammar.specs.Sources.{viewOf}
 use Rattle.grammar.specs.Alternatives.{kindOf, kindAlternative, nth}

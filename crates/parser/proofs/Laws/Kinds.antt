@@ -13,13 +13,13 @@ use lib.ListN.{drop}
 use types.Run.{OneOf}
 use borrow.Author.Tests.{eq-eqb, ne-eqb, eqb-true}
 use Rattle.lexer.specs.Tests.{and, or, among}
-use Rattle.lexer.specs.Kinds.{ident, boolean, keyword}
+use Rattle.lexer.specs.internal.Kinds.{ident, boolean, keyword}
 use Rattle.lexer.specs.Table.{tokenRoom, rowsOf, kindAt}
 use Rattle.lexer.proofs.Laws.Tests.{or-false, eqb-turn, and-left, and-right, or-else, or-right}
 use Rattle.typenames.specs.TypeNames.{items}
 use Rattle.grammar.specs.Grammars.{endOfTokens}
 use Rattle.grammar.specs.Questions.{Piece, fits}
-use Rattle.grammar.specs.Nurl.{single}
+use Rattle.grammar.specs.internal.Nurl.{single}
 use Rattle.grammar.proofs.Laws.Patterns.{fits-at}
 use Rattle.parser.specs.Steps.{kindsAt, wordKinds}
 use Rattle.parser.proofs.Laws.Views.{kind-here, kind-inside}

@@ -7,17 +7,17 @@ use native.Mathlib.Omega.{arith}
 use lib.Dec.{eqb}
 use borrow.Author.Tests.{eqb-true, eqb-false}
 use Rattle.lexer.specs.Tests.{and, between, pick}
-use Rattle.lexer.specs.Kinds.{leftBracket, rightBracket}
+use Rattle.lexer.specs.internal.Kinds.{leftBracket, rightBracket}
 use Rattle.lexer.specs.Table.{tokenRoom, rowsOf, kindAt}
 use Rattle.grammar.specs.Grammars.{Symbol, token, part, condition, when, unless, query, row, noRow, Names, View, asked, met}
 use Rattle.grammar.specs.Rows.{levels}
 use Rattle.grammar.specs.Reading.{Outcome, one, descend, enter, readWithin}
-use Rattle.grammar.specs.RowKinds.{listRow}
-use Rattle.grammar.specs.Nonterminals.{moreNames, moreWords, nameList, wordList, typeParameters, typeArguments, structParameters}
-use Rattle.grammar.specs.Classes.{word, declaredWord}
+use Rattle.grammar.specs.internal.RowKinds.{listRow}
+use Rattle.grammar.specs.internal.Nonterminals.{moreNames, moreWords, nameList, wordList, typeParameters, typeArguments, structParameters}
+use Rattle.grammar.specs.internal.Classes.{word, declaredWord}
 use Rattle.grammar.specs.Questions.{answerTo}
-use Rattle.grammar.specs.Nurl.{rule, productions, questions17, opensNames, opensWords, opensStructNames}
-use Rattle.grammar.specs.Nurl.{one as only}
+use Rattle.grammar.specs.Nurl.{productions, questions17}
+use Rattle.grammar.specs.internal.Nurl.{rule, opensNames, opensWords, opensStructNames, one as only}
 use Rattle.grammar.specs.Languages.{language17, view}
 use Rattle.grammar.specs.Sources.{viewOf}
 use Rattle.grammar.specs.Alternatives.{kindOf}

@@ -5,16 +5,16 @@ use mathlib.Core.Bool.{true, false}
 use mathlib.Core.List.{List, [], _∷_}
 use native.Mathlib.Omega.{arith}
 use Rattle.lexer.specs.Tests.{and, or, between, among}
-use Rattle.lexer.specs.Kinds.{ident, boolean, int, arrow}
+use Rattle.lexer.specs.internal.Kinds.{ident, boolean, int, arrow}
 use Rattle.lexer.specs.Table.{tokenRoom, rowsOf}
 use Rattle.grammar.specs.Grammars.{Symbol, token, part, Makes, row, noRow, Names, View}
 use Rattle.grammar.specs.Rows.{levels}
 use Rattle.grammar.specs.Reading.{one}
-use Rattle.grammar.specs.RowKinds.{armRow, payloadRow}
-use Rattle.grammar.specs.Nonterminals.{expression, arms, arm, payloads3, payloads2, payloads1, payload}
-use Rattle.grammar.specs.Classes.{armHead, payloadToken}
-use Rattle.grammar.specs.Nurl.{rule, productions}
-use Rattle.grammar.specs.Nurl.{one as only}
+use Rattle.grammar.specs.internal.RowKinds.{armRow, payloadRow}
+use Rattle.grammar.specs.internal.Nonterminals.{expression, arms, arm, payloads3, payloads2, payloads1, payload}
+use Rattle.grammar.specs.internal.Classes.{armHead, payloadToken}
+use Rattle.grammar.specs.Nurl.{productions}
+use Rattle.grammar.specs.internal.Nurl.{rule, one as only}
 use Rattle.grammar.specs.Languages.{language17}
 use Rattle.grammar.specs.Sources.{viewOf}
 use Rattle.grammar.proofs.Laws.Checks.{below, implies}

@@ -6,10 +6,10 @@ use mathlib.Core.Bool.{true}
 use mathlib.Core.List.{List, [], _∷_}
 use lib.Dec.{eqb}
 use Rattle.lexer.specs.Tests.{and, or, among}
-use Rattle.lexer.specs.Kinds.{keyword, sizeof, dollar, ampersand, at, colon, equal, semicolon, tilde, leftParen, leftBracket, bang, caret}
-use Rattle.lexer.specs.Kinds.{backslash, question, dot, hash, star, questionQuestion}
-use Rattle.grammar.specs.Nonterminals.{type, expression, statement, declaration}
-use Rattle.grammar.specs.Classes.{name, typeWord, operators}
+use Rattle.lexer.specs.internal.Kinds.{keyword, sizeof, dollar, ampersand, at, colon, equal, semicolon, tilde, leftParen, leftBracket}
+use Rattle.lexer.specs.internal.Kinds.{bang, caret, backslash, question, dot, hash, star, questionQuestion}
+use Rattle.grammar.specs.internal.Nonterminals.{type, expression, statement, declaration}
+use Rattle.grammar.specs.internal.Classes.{name, typeWord, operators}
 use Rattle.grammar.specs.Alternatives.{kindAlternative}
 use Rattle.grammar.proofs.Laws.Checks.{below, implies}
 use Rattle.grammar.proofs.Laws.Groups17.{kindNumber, kind-same}

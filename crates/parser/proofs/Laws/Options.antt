@@ -7,11 +7,12 @@ use native.Mathlib.Nat.{pos-of-ne-zero}
 use native.Mathlib.Omega.{arith}
 use lib.Dec.{eqb}
 use Rattle.lexer.specs.Tests.{between}
-use Rattle.lexer.specs.Kinds.{lastKind}
+use Rattle.lexer.specs.internal.Kinds.{lastKind}
 use Rattle.lexer.specs.Table.{tokenRoom, rowsOf, kindAt}
 use Rattle.grammar.specs.Grammars.{next, Symbol, token, part, Makes, noRow, Names, View, asked, met}
 use Rattle.grammar.specs.Reading.{one, choice}
-use Rattle.grammar.specs.Nurl.{rule, productions}
+use Rattle.grammar.specs.Nurl.{productions}
+use Rattle.grammar.specs.internal.Nurl.{rule}
 use Rattle.grammar.specs.Languages.{language17}
 use Rattle.grammar.specs.Sources.{viewOf}
 use Rattle.grammar.specs.Alternatives.{kindOf}

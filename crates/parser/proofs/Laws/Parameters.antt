@@ -4,15 +4,16 @@ use mathlib.Core.Path.{_≡_, refl, ap, _∙_}
 use mathlib.Core.Bool.{true, false}
 use mathlib.Core.List.{List, [], _∷_}
 use lib.Dec.{eqb}
-use Rattle.lexer.specs.Kinds.{ident}
+use Rattle.lexer.specs.internal.Kinds.{ident}
 use Rattle.lexer.specs.Table.{tokenRoom, rowsOf}
 use Rattle.grammar.specs.Grammars.{Symbol, token, part, unless, Makes, row, noRow, Names, View}
 use Rattle.grammar.specs.Rows.{levels}
 use Rattle.grammar.specs.Reading.{one, choice}
-use Rattle.grammar.specs.RowKinds.{parameterRow}
-use Rattle.grammar.specs.Nonterminals.{type, parameters, parameter, fields, field, fieldName}
-use Rattle.grammar.specs.Classes.{name}
-use Rattle.grammar.specs.Nurl.{rule, productions, anyName}
+use Rattle.grammar.specs.internal.RowKinds.{parameterRow}
+use Rattle.grammar.specs.internal.Nonterminals.{type, parameters, parameter, fields, field, fieldName}
+use Rattle.grammar.specs.internal.Classes.{name}
+use Rattle.grammar.specs.Nurl.{productions, anyName}
+use Rattle.grammar.specs.internal.Nurl.{rule}
 use Rattle.grammar.specs.Languages.{language17}
 use Rattle.grammar.specs.Sources.{viewOf}
 use Rattle.grammar.specs.Alternatives.{kindOf, kindAlternative}

@@ -10,9 +10,10 @@ use Rattle.lexer.specs.Table.{tokenRoom, rowsOf}
 use Rattle.grammar.specs.Grammars.{endOfTokens, next, Symbol, part, row, Names, View, agrees, asked, met}
 use Rattle.grammar.specs.Rows.{levels}
 use Rattle.grammar.specs.Reading.{whole}
-use Rattle.grammar.specs.RowKinds.{programRow}
-use Rattle.grammar.specs.Nonterminals.{program, declarations}
-use Rattle.grammar.specs.Nurl.{rule, productions}
+use Rattle.grammar.specs.internal.RowKinds.{programRow}
+use Rattle.grammar.specs.internal.Nonterminals.{program, declarations}
+use Rattle.grammar.specs.Nurl.{productions}
+use Rattle.grammar.specs.internal.Nurl.{rule}
 use Rattle.grammar.specs.Languages.{language17}
 use Rattle.grammar.specs.Sources.{viewOf}
 use Rattle.grammar.specs.Alternatives.{kindOf}

@@ -11,14 +11,16 @@ use borrow.Author.Tests.{eq-eqb, ne-eqb, lt-ltb}
 use Rattle.lexer.specs.Tests.{and, or, pick, among}
 use Rattle.lexer.specs.Text.{bytes}
 use Rattle.lexer.specs.Spellings.{same}
-use Rattle.lexer.specs.Kinds.{ident, keyword, int, leftBrace, leftBracket, rightBracket, leftParen, at, arrow, star, question, bang}
+use Rattle.lexer.specs.internal.Kinds.{ident, keyword, int, leftBrace, leftBracket, rightBracket, leftParen, at, arrow, star, question}
+use Rattle.lexer.specs.internal.Kinds.{bang}
 use Rattle.lexer.specs.Table.{rowsOf, kindAt}
 use Rattle.lexer.proofs.Laws.Tests.{and-true, or-false, eqb-turn}
 use Rattle.typenames.specs.TypeNames.{itemOf, itemAt, items, isNamed}
 use Rattle.grammar.specs.Grammars.{endOfTokens, Condition, query, Names, asked}
 use Rattle.grammar.specs.Classes.{typeName}
 use Rattle.grammar.specs.Questions.{Piece, oneOf, someOf, isText, runOf, fits, fitsOne, answerTo}
-use Rattle.grammar.specs.Nurl.{single, questions17, opensNames, opensWords, opensStruct, twoNames, opensClosure, zeroOrOne, plainName}
+use Rattle.grammar.specs.Nurl.{questions17, plainName}
+use Rattle.grammar.specs.internal.Nurl.{single, opensNames, opensWords, opensStruct, twoNames, opensClosure, zeroOrOne}
 use Rattle.grammar.specs.Languages.{language17, classOf, view}
 use Rattle.grammar.specs.Sources.{viewOf}
 use Rattle.grammar.proofs.Laws.Patterns.{fits-at, fits-spelled, run-at, fits-run}

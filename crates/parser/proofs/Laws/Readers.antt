@@ -10,14 +10,15 @@ use lib.Dec.{eqb, leb, ltb}
 use lib.ListN.{replicate}
 use borrow.Author.Tests.{eqb-true, eq-eqb, lt-ltb, ltb-true, ltb-false, le-leb, leb-true}
 use Rattle.lexer.specs.Tests.{and, or, between, pick, among}
-use Rattle.lexer.specs.Kinds.{ident, lastKind}
+use Rattle.lexer.specs.internal.Kinds.{ident, lastKind}
 use Rattle.lexer.specs.Table.{tokenRoom, rowsOf, kindAt}
 use Rattle.lexer.proofs.Laws.Tests.{and-left, and-right, between-range}
 use Rattle.grammar.specs.Grammars.{Symbol, token, part, Makes, row, rowOf, noRow, says, Production, Names, View, agrees}
 use Rattle.grammar.specs.Rows.{levels}
 use Rattle.grammar.specs.Reading.{deep, Choice, none, one, choice}
-use Rattle.grammar.specs.Classes.{name, word, declaredWord}
-use Rattle.grammar.specs.Nurl.{rule, productions}
+use Rattle.grammar.specs.internal.Classes.{name, word, declaredWord}
+use Rattle.grammar.specs.Nurl.{productions}
+use Rattle.grammar.specs.internal.Nurl.{rule}
 use Rattle.grammar.specs.Languages.{language17}
 use Rattle.grammar.specs.Sources.{viewOf}
 use Rattle.grammar.specs.Alternatives.{kindOf, kindAlternative, nth}

@@ -7,18 +7,18 @@ use native.Mathlib.Omega.{arith}
 use lib.Dec.{eqb, leb, ltb}
 use borrow.Author.Tests.{eqb-true}
 use Rattle.lexer.specs.Tests.{and, between}
-use Rattle.lexer.specs.Kinds.{ident, dot, tilde, leftBrace, rightBrace}
+use Rattle.lexer.specs.internal.Kinds.{ident, dot, tilde, leftBrace, rightBrace}
 use Rattle.lexer.specs.Table.{tokenRoom, rowsOf, kindAt}
 use Rattle.lexer.proofs.Laws.Tests.{and-left}
 use Rattle.grammar.specs.Grammars.{query, Symbol, token, part, unless, Makes, row, rowOf, says, noRow, Names, View, asked, met}
 use Rattle.grammar.specs.Rows.{levels}
 use Rattle.grammar.specs.Reading.{one, choice}
-use Rattle.grammar.specs.RowKinds.{blockRow, letRow, setNameRow, setElementRow, deferRow, whileRow, foreachRow, complementRow}
-use Rattle.grammar.specs.Nonterminals.{block, statements, statement, binding, assignment, tildeStatement, loopOrComplement}
-use Rattle.grammar.specs.Nonterminals.{expression, type}
-use Rattle.grammar.specs.Classes.{name}
-use Rattle.grammar.specs.Nurl.{rule, productions, plainName, aTilde, aBrace, twoNames}
-use Rattle.grammar.specs.Nurl.{one as only}
+use Rattle.grammar.specs.internal.RowKinds.{blockRow, letRow, setNameRow, setElementRow, deferRow, whileRow, foreachRow, complementRow}
+use Rattle.grammar.specs.internal.Nonterminals.{block, statements, statement, binding, assignment, tildeStatement, loopOrComplement}
+use Rattle.grammar.specs.internal.Nonterminals.{expression, type}
+use Rattle.grammar.specs.internal.Classes.{name}
+use Rattle.grammar.specs.Nurl.{productions, plainName}
+use Rattle.grammar.specs.internal.Nurl.{rule, aTilde, aBrace, twoNames, one as only}
 use Rattle.grammar.specs.Languages.{language17}
 use Rattle.grammar.specs.Sources.{viewOf}
 use Rattle.grammar.specs.Alternatives.{kindOf, kindAlternative, nth}

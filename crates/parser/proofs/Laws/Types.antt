@@ -9,16 +9,16 @@ use lib.Dec.{eqb, leb, ltb}
 use lib.ListN.{replicate}
 use borrow.Author.Tests.{eqb-true}
 use Rattle.lexer.specs.Tests.{and, between}
-use Rattle.lexer.specs.Kinds.{ident, at, rightParen}
+use Rattle.lexer.specs.internal.Kinds.{ident, at, rightParen}
 use Rattle.lexer.specs.Table.{tokenRoom, rowsOf}
 use Rattle.grammar.specs.Grammars.{Symbol, token, part, Makes, row, says, noRow, Names, View}
 use Rattle.grammar.specs.Rows.{levels}
 use Rattle.grammar.specs.Reading.{none, one, choice}
-use Rattle.grammar.specs.RowKinds.{baseTypeRow, functionTypeRow, instanceRow, namedTypeRow}
-use Rattle.grammar.specs.Nonterminals.{type, types, parenthesized, moreWords}
-use Rattle.grammar.specs.Classes.{name, word}
-use Rattle.grammar.specs.Nurl.{rule, productions}
-use Rattle.grammar.specs.Nurl.{one as only}
+use Rattle.grammar.specs.internal.RowKinds.{baseTypeRow, functionTypeRow, instanceRow, namedTypeRow}
+use Rattle.grammar.specs.internal.Nonterminals.{type, types, parenthesized, moreWords}
+use Rattle.grammar.specs.internal.Classes.{name, word}
+use Rattle.grammar.specs.Nurl.{productions}
+use Rattle.grammar.specs.internal.Nurl.{rule, one as only}
 use Rattle.grammar.specs.Languages.{language17}
 use Rattle.grammar.specs.Sources.{viewOf}
 use Rattle.grammar.specs.Alternatives.{kindOf, kindAlternative, nth}

@@ -9,7 +9,7 @@ use lib.Dec.{eqb, ltb}
 use lib.ListN.{getD}
 use borrow.Author.Tests.{ltb-true, ltb-false}
 use Rattle.lexer.specs.Tests.{and, pick}
-use Rattle.lexer.specs.Kinds.{ident, lastKind}
+use Rattle.lexer.specs.internal.Kinds.{ident, lastKind}
 use Rattle.lexer.specs.Tokens.{Token}
 use Rattle.lexer.specs.Table.{tokenRoom, rowsOf, noToken, rowAt, kindAt}
 use Rattle.lexer.proofs.Laws.Tests.{between-range}

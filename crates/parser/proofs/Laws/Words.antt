@@ -7,9 +7,10 @@ use native.Mathlib.Omega.{arith}
 use Rattle.lexer.specs.Tests.{pick, among}
 use Rattle.lexer.specs.Table.{tokenRoom, rowsOf}
 use Rattle.grammar.specs.Grammars.{Symbol, token, part, Makes, noRow, Names, View}
-use Rattle.grammar.specs.Nonterminals.{moreNames, moreWords}
-use Rattle.grammar.specs.Classes.{word, declaredWord}
-use Rattle.grammar.specs.Nurl.{rule, productions}
+use Rattle.grammar.specs.internal.Nonterminals.{moreNames, moreWords}
+use Rattle.grammar.specs.internal.Classes.{word, declaredWord}
+use Rattle.grammar.specs.Nurl.{productions}
+use Rattle.grammar.specs.internal.Nurl.{rule}
 use Rattle.grammar.specs.Languages.{language17}
 use Rattle.grammar.specs.Sources.{viewOf}
 use Rattle.grammar.specs.Alternatives.{kindOf}

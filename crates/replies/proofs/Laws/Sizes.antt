@@ -13,7 +13,7 @@ use Rattle.lexer.specs.Tests.{pick}
 use Rattle.lexer.specs.Text.{bytes}
 use Rattle.lexer.specs.Table.{tokenRoom}
 use Rattle.grammar.specs.Rows.{Row}
-use Rattle.grammar.specs.RowKinds.{namedTypeRow}
+use Rattle.grammar.specs.internal.RowKinds.{namedTypeRow}
 use Rattle.grammar.specs.Forests.{Forest, nothing, tree}
 use Rattle.grammar.specs.Languages.{language17}
 use Rattle.grammar.specs.TreeTable.{treeWidth, treeRoom, treeRows, placed}

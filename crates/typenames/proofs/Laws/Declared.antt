@@ -12,7 +12,7 @@ use borrow.Author.Tests.{eqb-true, eq-eqb, ne-eqb, lt-ltb, le-ltb}
 use lib.ListN.{length, drop, length-drop}
 use lib.Seq.{drop-cons}
 use Rattle.lexer.specs.Tests.{and, or, pick, among}
-use Rattle.lexer.specs.Kinds.{ident, colon, bar, leftBrace, rightBrace, leftBracket}
+use Rattle.lexer.specs.internal.Kinds.{ident, colon, bar, leftBrace, rightBrace, leftBracket}
 use Rattle.lexer.specs.Tokens.{Token}
 use Rattle.lexer.specs.Table.{tokenRoom, rowsOf, noToken, rowAt, kindAt}
 use Rattle.lexer.proofs.Laws.Tests.{or-false, eqb-turn}

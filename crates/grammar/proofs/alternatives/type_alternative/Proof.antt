@@ -3,7 +3,7 @@ use Prim.Native.Nat.{ℕ}
 use mathlib.Core.Path.{_∙_, sym, ap}
 use native.Mathlib.Omega.{arith}
 use Rattle.lexer.proofs.Laws.Computed.{entry}
-use Rattle.grammar.specs.Nonterminals.{type}
+use Rattle.grammar.specs.internal.Nonterminals.{type}
 use Rattle.grammar.proofs.Laws.Alternatives.{kind-past}
 use Rattle.grammar.proofs.Laws.Groups17.{kindNumber, kind-same}
 use borrow.Author.Needs.{needs}

@@ -3,7 +3,7 @@
 use Prim.Native.Nat.{ℕ, zero-le}
 use mathlib.Core.List.{List, [], _∷_}
 use Rattle.lexer.specs.Tests.{and, or, among}
-use Rattle.lexer.specs.Kinds.{ident}
+use Rattle.lexer.specs.internal.Kinds.{ident}
 use Rattle.lexer.specs.Spellings.{same, kindOf, reserved}
 use Rattle.lexer.specs.Words.{orIdent, wordKind}
 use Rattle.lexer.specs.Text.{bytes}

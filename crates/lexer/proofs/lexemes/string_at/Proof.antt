@@ -1,7 +1,7 @@
 -- `lexer::lexemes::string_at` meets its contract. Assumes nothing.
 use Prim.Native.Nat.{ℕ}
 use mathlib.Core.Path.{_∙_, sym, ap}
-use Rattle.lexer.specs.Kinds.{string}
+use Rattle.lexer.specs.internal.Kinds.{string}
 use Rattle.lexer.specs.declared.Lexeme.{Lexeme}
 use Rattle.lexer.proofs.Laws.Lexemes.{string-closed, string-open}
 use native.Mathlib.Omega.{arith}

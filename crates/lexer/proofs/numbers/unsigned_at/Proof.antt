@@ -1,7 +1,7 @@
 -- `lexer::numbers::unsigned_at` meets its contract: digits, then a fraction, then an exponent. Assumes nothing.
 use mathlib.Core.Path.{_≡_, _∙_, sym, ap}
 use Prim.Native.Nat.{ℕ, _+_, _-_}
-use Rattle.lexer.specs.Kinds.{int, float}
+use Rattle.lexer.specs.internal.Kinds.{int, float}
 use Rattle.lexer.specs.declared.Lexeme.{Lexeme}
 use Rattle.lexer.proofs.Laws.Numbers.{no-number, whole-number, float-number}
 use native.Mathlib.Omega.{arith}

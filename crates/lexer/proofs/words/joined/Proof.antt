@@ -1,7 +1,7 @@
 -- `lexer::words::joined` meets its contract. Assumes nothing.
 use mathlib.Core.Path.{ap}
 use Prim.Native.Nat.{ℕ}
-use Rattle.lexer.specs.Kinds.{ident}
+use Rattle.lexer.specs.internal.Kinds.{ident}
 use Rattle.lexer.specs.declared.Lexeme.{Lexeme}
 use native.Mathlib.Omega.{arith}
 use borrow.Author.Needs.{needs}

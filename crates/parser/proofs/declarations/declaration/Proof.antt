@@ -1,7 +1,7 @@
 -- `parser::declarations::declaration` meets its contract. Assumes nothing.
 use mathlib.Core.Path.{_≡_, _∙_, ap, sym}
 use native.Mathlib.Nat.{pos-of-ne-zero}
-use Rattle.grammar.specs.Nonterminals.{declaration}
+use Rattle.grammar.specs.internal.Nonterminals.{declaration}
 use Rattle.grammar.specs.Alternatives.{kindAlternative}
 use Rattle.parser.proofs.Laws.Readers.{beyond}
 use Rattle.parser.proofs.Laws.Declarations.{declaration-few, function-kind, declaration-stuck, declaration-deep, function-declares}

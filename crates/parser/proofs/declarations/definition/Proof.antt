@@ -2,9 +2,9 @@
 use mathlib.Core.Path.{_∙_, ap, sym}
 use lib.Dec.{eqb}
 use borrow.Author.Tests.{eqb-true}
-use Rattle.lexer.specs.Kinds.{bar}
+use Rattle.lexer.specs.internal.Kinds.{bar}
 use Rattle.grammar.specs.Grammars.{query}
-use Rattle.grammar.specs.Nurl.{opensStruct}
+use Rattle.grammar.specs.internal.Nurl.{opensStruct}
 use Rattle.parser.specs.Steps.{nextKind, askedAt}
 use Rattle.parser.proofs.Laws.After.{within-small}
 use native.Mathlib.Omega.{arith}

@@ -1,6 +1,6 @@
 -- `parser::declarations::enumeration` meets its contract. Assumes nothing.
 use mathlib.Core.Path.{_∙_, ap}
-use Rattle.grammar.specs.Nonterminals.{declaration}
+use Rattle.grammar.specs.internal.Nonterminals.{declaration}
 use Rattle.grammar.specs.Nurl.{productions}
 use Rattle.parser.specs.Steps.{nextKind}
 use Rattle.parser.proofs.Laws.After.{within-small, reads-within}

@@ -1,6 +1,6 @@
 -- `parser::declarations::import` meets its contract. Assumes nothing.
 use mathlib.Core.List.{[]}
-use Rattle.grammar.specs.Nonterminals.{declaration}
+use Rattle.grammar.specs.internal.Nonterminals.{declaration}
 use Rattle.grammar.specs.Nurl.{productions}
 use Rattle.parser.proofs.Laws.After.{within-small}
 use Rattle.parser.proofs.Laws.Views.{names-fixed}

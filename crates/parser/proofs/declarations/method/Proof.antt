@@ -4,7 +4,7 @@ use mathlib.Core.List.{[]}
 use native.Mathlib.Nat.{pos-of-ne-zero}
 use lib.Dec.{eqb}
 use borrow.Author.Tests.{eq-eqb}
-use Rattle.lexer.specs.Kinds.{at}
+use Rattle.lexer.specs.internal.Kinds.{at}
 use Rattle.grammar.specs.Nurl.{productions}
 use Rattle.parser.proofs.Laws.After.{within-small, within-wider, reads-within}
 use Rattle.parser.proofs.Laws.Views.{names-fixed}

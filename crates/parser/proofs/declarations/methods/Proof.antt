@@ -5,7 +5,7 @@ use lib.ListN.{length}
 use borrow.Author.Tests.{eqb-true}
 use Rattle.lexer.specs.Table.{tokenRoom, rowsOf}
 use Rattle.grammar.specs.Grammars.{part, noRow}
-use Rattle.grammar.specs.Nonterminals.{methods}
+use Rattle.grammar.specs.internal.Nonterminals.{methods}
 use Rattle.grammar.specs.Nurl.{productions}
 use Rattle.grammar.specs.Languages.{language17}
 use Rattle.grammar.specs.Sources.{viewOf}

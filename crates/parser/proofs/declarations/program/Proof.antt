@@ -6,8 +6,8 @@ use Prim.Native.Nat.{_-_}
 use lib.ListN.{length}
 use Rattle.lexer.specs.Table.{tokenRoom, rowsOf}
 use Rattle.grammar.specs.Grammars.{part, row}
-use Rattle.grammar.specs.RowKinds.{programRow}
-use Rattle.grammar.specs.Nonterminals.{program, declarations, declaration as aDeclaration}
+use Rattle.grammar.specs.internal.RowKinds.{programRow}
+use Rattle.grammar.specs.internal.Nonterminals.{program, declarations, declaration as aDeclaration}
 use Rattle.grammar.specs.Nurl.{productions}
 use Rattle.grammar.specs.Languages.{language17}
 use Rattle.grammar.specs.Sources.{viewOf}

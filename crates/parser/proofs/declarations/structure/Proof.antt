@@ -1,7 +1,7 @@
 -- `parser::declarations::structure` meets its contract. Assumes nothing.
 use mathlib.Core.Path.{_∙_}
 use mathlib.Core.List.{[]}
-use Rattle.grammar.specs.Nonterminals.{declaration}
+use Rattle.grammar.specs.internal.Nonterminals.{declaration}
 use Rattle.grammar.specs.Nurl.{productions}
 use Rattle.parser.proofs.Laws.After.{within-small, reads-within}
 use Rattle.parser.proofs.Laws.Views.{names-fixed}

@@ -1,7 +1,7 @@
 -- `parser::expressions::begins_payload` meets its contract. Assumes nothing.
 use borrow.Author.Tests.{eq-eqb, ne-eqb}
 use Rattle.lexer.specs.Tests.{or}
-use Rattle.lexer.specs.Kinds.{ident}
+use Rattle.lexer.specs.internal.Kinds.{ident}
 use Rattle.parser.proofs.Laws.Kinds.{among-two}
 use borrow.Author.Needs.{needs}
 use Rattle.parser.proofs.expressions.begins_payload.Statement.{statement}

@@ -2,7 +2,7 @@
 use mathlib.Core.Path.{refl, _∙_, sym, ap}
 use native.Mathlib.Omega.{arith}
 use native.Mathlib.Nat.{pos-of-ne-zero}
-use Rattle.grammar.specs.Nonterminals.{expression}
+use Rattle.grammar.specs.internal.Nonterminals.{expression}
 use Rattle.grammar.specs.Alternatives.{kindAlternative}
 use Rattle.parser.proofs.Laws.After.{within-small}
 use Rattle.parser.proofs.Laws.Readers.{level-below, opened-within}

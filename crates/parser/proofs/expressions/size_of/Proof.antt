@@ -2,7 +2,7 @@
 use mathlib.Core.Path.{_∙_}
 use mathlib.Core.List.{[]}
 use native.Mathlib.Omega.{arith}
-use Rattle.grammar.specs.Nonterminals.{expression}
+use Rattle.grammar.specs.internal.Nonterminals.{expression}
 use Rattle.grammar.specs.Nurl.{productions}
 use Rattle.parser.proofs.Laws.After.{within-small, within-wider}
 use Rattle.parser.proofs.Laws.Views.{names-fixed}

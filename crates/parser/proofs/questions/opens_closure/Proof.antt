@@ -4,7 +4,7 @@ use mathlib.Core.List.{[], _∷_}
 use native.Mathlib.Omega.{arith}
 use borrow.Author.Needs.{needs}
 use Rattle.lexer.specs.Tests.{and, or, among}
-use Rattle.lexer.specs.Kinds.{leftParen, at}
+use Rattle.lexer.specs.internal.Kinds.{leftParen, at}
 use Rattle.lexer.proofs.Laws.Tests.{and-true, or-false}
 use Rattle.parser.specs.Steps.{kindsAt}
 use Rattle.parser.proofs.Laws.Views.{kind-inside}

@@ -6,11 +6,11 @@ use native.Mathlib.Omega.{arith}
 use lib.Dec.{eqb}
 use borrow.Author.Tests.{eq-eqb, ne-eqb}
 use borrow.Author.Needs.{needs}
-use Rattle.lexer.specs.Kinds.{rightBracket}
+use Rattle.lexer.specs.internal.Kinds.{rightBracket}
 use Rattle.lexer.specs.Table.{kindAt}
 use Rattle.lexer.specs.Tests.{and, pick}
 use Rattle.grammar.specs.Grammars.{query}
-use Rattle.grammar.specs.Nurl.{opensNames, opensWords}
+use Rattle.grammar.specs.internal.Nurl.{opensNames, opensWords}
 use Rattle.parser.specs.Steps.{AnswersKinds}
 use Rattle.parser.proofs.Laws.Views.{kind-inside}
 use Rattle.parser.proofs.Laws.Questions.{refused-no, no-list, list-opens}

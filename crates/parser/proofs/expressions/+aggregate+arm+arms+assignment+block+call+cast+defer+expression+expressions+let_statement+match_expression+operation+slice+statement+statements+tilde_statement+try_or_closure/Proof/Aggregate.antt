@@ -1,7 +1,7 @@
 -- `aggregate`'s part of the cycle's proof.
 use mathlib.Core.Path.{_∙_}
 use mathlib.Core.List.{[]}
-use Rattle.grammar.specs.Nonterminals.{expression}
+use Rattle.grammar.specs.internal.Nonterminals.{expression}
 use Rattle.grammar.specs.Nurl.{productions}
 use Rattle.parser.specs.Readings.{namesIn}
 use Rattle.parser.proofs.Laws.After.{reads-within, within-small, within-wider}

@@ -6,7 +6,7 @@ use lib.ListN.{length}
 use Rattle.lexer.specs.Tests.{among}
 use Rattle.lexer.specs.Table.{tokenRoom, rowsOf}
 use Rattle.grammar.specs.Grammars.{part, noRow}
-use Rattle.grammar.specs.Nonterminals.{arms as armList}
+use Rattle.grammar.specs.internal.Nonterminals.{arms as armList}
 use Rattle.grammar.specs.Nurl.{productions}
 use Rattle.grammar.specs.Languages.{language17}
 use Rattle.grammar.specs.Sources.{viewOf}

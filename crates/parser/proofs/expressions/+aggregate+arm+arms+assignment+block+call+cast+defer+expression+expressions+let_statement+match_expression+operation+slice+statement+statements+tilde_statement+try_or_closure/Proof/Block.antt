@@ -3,7 +3,7 @@ use mathlib.Core.Path.{refl, _∙_, sym}
 use borrow.Author.Tests.{not-true, not-false}
 use native.Mathlib.Nat.{pos-of-ne-zero}
 use lib.Dec.{eqb}
-use Rattle.lexer.specs.Kinds.{leftBrace}
+use Rattle.lexer.specs.internal.Kinds.{leftBrace}
 use Rattle.grammar.specs.Nurl.{productions}
 use Rattle.parser.specs.Readings.{namesIn}
 use Rattle.parser.proofs.Laws.After.{reads-within, within-small}

@@ -1,6 +1,6 @@
 -- `defer`'s part of the cycle's proof.
 use mathlib.Core.Path.{_∙_}
-use Rattle.grammar.specs.Nonterminals.{statement as aStatement}
+use Rattle.grammar.specs.internal.Nonterminals.{statement as aStatement}
 use Rattle.grammar.specs.Nurl.{productions}
 use Rattle.parser.specs.Readings.{namesIn}
 use Rattle.parser.proofs.Laws.After.{within-small, within-wider}

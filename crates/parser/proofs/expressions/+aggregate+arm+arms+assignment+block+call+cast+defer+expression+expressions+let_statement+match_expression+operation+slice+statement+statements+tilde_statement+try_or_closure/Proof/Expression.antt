@@ -1,7 +1,7 @@
 -- `expression`'s part of the cycle's proof.
 use mathlib.Core.Path.{_≡_, refl, _∙_, sym, ap}
 use native.Mathlib.Nat.{pos-of-ne-zero}
-use Rattle.grammar.specs.Nonterminals.{expression as anExpression}
+use Rattle.grammar.specs.internal.Nonterminals.{expression as anExpression}
 use Rattle.grammar.specs.Alternatives.{kindAlternative}
 use Rattle.parser.specs.Readings.{namesIn}
 use Rattle.parser.specs.Forms.{operandCount, operationRow}

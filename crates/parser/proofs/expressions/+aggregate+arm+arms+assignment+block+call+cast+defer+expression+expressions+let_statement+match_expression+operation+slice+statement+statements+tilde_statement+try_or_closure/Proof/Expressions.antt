@@ -4,7 +4,7 @@ use mathlib.Core.List.{[], _∷_}
 use lib.ListN.{length}
 use Rattle.lexer.specs.Table.{tokenRoom, rowsOf}
 use Rattle.grammar.specs.Grammars.{part, noRow}
-use Rattle.grammar.specs.Nonterminals.{expressions as expressionList, expression as anExpression}
+use Rattle.grammar.specs.internal.Nonterminals.{expressions as expressionList, expression as anExpression}
 use Rattle.grammar.specs.Nurl.{productions}
 use Rattle.grammar.specs.Languages.{language17}
 use Rattle.grammar.specs.Sources.{viewOf}

@@ -1,6 +1,6 @@
 -- `match_expression`'s part of the cycle's proof.
 use mathlib.Core.Path.{_∙_}
-use Rattle.grammar.specs.Nonterminals.{expression as anExpression}
+use Rattle.grammar.specs.internal.Nonterminals.{expression as anExpression}
 use Rattle.grammar.specs.Nurl.{productions}
 use Rattle.parser.specs.Readings.{namesIn}
 use Rattle.parser.proofs.Laws.After.{reads-within, within-small, within-wider}

@@ -1,7 +1,7 @@
 -- `statement`'s part of the cycle's proof.
 use mathlib.Core.Path.{_≡_, _∙_, sym, ap}
 use native.Mathlib.Nat.{pos-of-ne-zero}
-use Rattle.grammar.specs.Nonterminals.{statement as aStatement}
+use Rattle.grammar.specs.internal.Nonterminals.{statement as aStatement}
 use Rattle.grammar.specs.Alternatives.{kindAlternative}
 use Rattle.parser.specs.Readings.{namesIn}
 use Rattle.parser.proofs.Laws.Readers.{beyond}

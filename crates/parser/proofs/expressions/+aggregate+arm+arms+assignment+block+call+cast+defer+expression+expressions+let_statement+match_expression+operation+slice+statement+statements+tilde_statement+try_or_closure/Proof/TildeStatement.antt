@@ -1,6 +1,6 @@
 -- `tilde_statement`'s part of the cycle's proof.
 use mathlib.Core.Path.{sym, _∙_}
-use Rattle.grammar.specs.Nonterminals.{statement}
+use Rattle.grammar.specs.internal.Nonterminals.{statement}
 use Rattle.grammar.specs.Nurl.{productions}
 use Rattle.parser.specs.Readings.{namesIn}
 use Rattle.parser.proofs.Laws.After.{reads-within, within-small, within-wider}

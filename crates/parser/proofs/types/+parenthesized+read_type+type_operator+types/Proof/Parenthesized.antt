@@ -2,7 +2,7 @@
 use mathlib.Core.Path.{_∙_, sym}
 use mathlib.Core.Bool.{true}
 use mathlib.Core.List.{[]}
-use Rattle.grammar.specs.Nonterminals.{type}
+use Rattle.grammar.specs.internal.Nonterminals.{type}
 use Rattle.grammar.specs.Nurl.{productions}
 use Rattle.parser.proofs.Laws.After.{reads-within, within-small, within-wider}
 use Rattle.parser.proofs.Laws.Views.{names-fixed}

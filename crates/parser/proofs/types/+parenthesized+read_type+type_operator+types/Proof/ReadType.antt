@@ -1,7 +1,7 @@
 -- `read_type`'s part of the cycle's proof.
 use mathlib.Core.Path.{_≡_, refl, _∙_, sym, ap}
 use native.Mathlib.Nat.{pos-of-ne-zero}
-use Rattle.grammar.specs.Nonterminals.{type}
+use Rattle.grammar.specs.internal.Nonterminals.{type}
 use Rattle.grammar.specs.Alternatives.{kindAlternative}
 use Rattle.parser.specs.Forms.{pointer, optional, slice, result}
 use Rattle.parser.proofs.Laws.After.{within-small}
