@@ -12,7 +12,6 @@ pub mod Fuel
 pub mod Places
 pub mod Takes
 pub mod Forests
-pub mod RowKinds
 pub mod Readings
 pub mod Views
 pub mod Patterns
@@ -23,9 +22,6 @@ pub mod Groups17
 pub mod Alternatives17
 pub mod Structs
 pub mod Sources
-pub mod Answers
 pub mod Nurl17
-pub mod Examples
-pub mod Lists17
-pub mod Readers
 pub mod Names
+pub mod KnownKinds

@@ -4,8 +4,9 @@ use mathlib.Core.Path.{_≡_}
 use mathlib.Core.Bool.{Bool, true}
 use mathlib.Core.List.{List, [], _∷_, _++_}
 use Rattle.lexer.specs.Tests.{among}
-use Rattle.grammar.specs.Grammars.{Condition, Symbol, token, part, condition, Production, Names, View, met}
-use Rattle.grammar.specs.Rows.{Row, made, passed, firstSaid, levels}
+use Rattle.grammar.specs.Grammars.{Condition, Symbol, token, derived, condition, Production, Names, View, met}
+use Rattle.tree.specs.TreeTable.{Row}
+use Rattle.grammar.specs.Rows.{made, passed, firstSaid, levels}
 
 -- a production of a table
 pub data Has : List Production → Production → Type 0 where
@@ -30,10 +31,10 @@ pub data Derives (g : List Production) (v : View) : Names → ℕ → List Symbo
       → Has g p → p .left ≡ x → n ≡ levels (p .makes) + below
       → Derives g v (v .inside x i e) below (p .right) i j inner said
       → Derives g v e n ss j k rest later
-      → Derives g v e n (part x ∷ ss) i k (made (p .makes) i j said inner ++ rest) (firstSaid (passed (p .makes) said) later)
+      → Derives g v e n (derived x ∷ ss) i k (made (p .makes) i j said inner ++ rest) (firstSaid (passed (p .makes) said) later)
 
 -- A derivation of a token list of so many tokens: it "takes all the tokens". It is nested at most n levels: "The program row is
 -- level 1, a child is its parent's level plus one", so that a row at level k is entered with n - k + 1 levels left. "At any depth"
 -- is: for some n.
 pub data Derivation (g : List Production) (v : View) (count : ℕ) (e : Names) (n x : ℕ) (rows : List Row) : Type 0 where
-  derivation : {said : ℕ} → Derives g v e n (part x ∷ []) 0 count rows said → Derivation g v count e n x rows
+  derivation : {said : ℕ} → Derives g v e n (derived x ∷ []) 0 count rows said → Derivation g v count e n x rows

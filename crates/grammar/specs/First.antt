@@ -5,7 +5,7 @@ use mathlib.Core.List.{List, [], _∷_}
 use lib.Dec.{eqb}
 use lib.ListN.{length}
 use Rattle.lexer.specs.Tests.{and, or, among}
-use Rattle.grammar.specs.Grammars.{Condition, next, query, Symbol, token, part, condition, Production, agrees}
+use Rattle.grammar.specs.Grammars.{Condition, next, query, Symbol, token, derived, condition, Production, agrees}
 
 -- whether a condition can be met before a token of class c; a question, which asks for more than the next token, always can
 unfoldable pub allows : ℕ → Bool → Condition → Bool
@@ -16,14 +16,14 @@ allows c b (query q) = true
 unfoldable pub skips : ℕ → (ℕ → Bool) → List Symbol → Bool
 skips c empty [] = true
 skips c empty (token cs ∷ ss) = false
-skips c empty (part x ∷ ss) = let rest = skips c empty ss in and (empty x) rest
+skips c empty (derived x ∷ ss) = let rest = skips c empty ss in and (empty x) rest
 skips c empty (condition b q ∷ ss) = let rest = skips c empty ss in and (allows c b q) rest
 
 -- whether symbols can begin with a token of class c, given which nonterminals can, and which can derive no token before it
 unfoldable pub starts : ℕ → (ℕ → Bool) → (ℕ → Bool) → List Symbol → Bool
 starts c first empty [] = false
 starts c first empty (token cs ∷ ss) = among cs c
-starts c first empty (part x ∷ ss) =
+starts c first empty (derived x ∷ ss) =
     let rest = starts c first empty ss in
     let later = and (empty x) rest in
     or (first x) later

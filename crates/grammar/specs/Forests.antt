@@ -3,7 +3,7 @@ use Prim.Native.Nat.{ℕ, suc, _+_, _≤_}
 use mathlib.Core.Path.{_≡_}
 use mathlib.Core.List.{List, [], _∷_, _++_}
 use lib.ListN.{length}
-use Rattle.grammar.specs.Rows.{Row}
+use Rattle.tree.specs.TreeTable.{Row}
 
 -- `Forest n i j rows`: the rows are whole trees, one after the other, "parent first", over tokens from i up to but not with j.
 -- No two trees share a token, and they stand in the order of their tokens. None of the rows has a higher level than n, where the

@@ -20,7 +20,7 @@ pub data Symbol : Type 0 where
   -- a token of one of these classes
   token : List ℕ → Symbol
   -- what a nonterminal derives
-  part : ℕ → Symbol
+  derived : ℕ → Symbol
   -- no token, where a condition holds (true) or does not hold (false)
   condition : Bool → Condition → Symbol
 
@@ -33,11 +33,11 @@ unless q = condition false q
 -- the row that a production makes
 pub data Makes : Type 0 where
   -- a row of this kind over all that the production derives
-  row : ℕ → Makes
+  givesRow : ℕ → Makes
   -- a row whose kind a part of the production says
   rowOf : Makes
   -- no row, but the kind of the row that it is a part of
-  says : ℕ → Makes
+  givesKind : ℕ → Makes
   -- no row; what its parts say, it says
   noRow : Makes
 

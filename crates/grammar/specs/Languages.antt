@@ -6,7 +6,8 @@ use lib.ListN.{take, drop, getD}
 use Rattle.lexer.specs.Tests.{and, pick}
 use Rattle.lexer.specs.Kinds.{tokenKind}
 use Rattle.lexer.specs.Editions.{Edition, edition17}
-use Rattle.typenames.specs.TypeNames.{Item, opening17, isNamed}
+use Rattle.lexer.specs.Items.{Item}
+use Rattle.typenames.specs.TypeNames.{opening17, isNamed}
 use Rattle.grammar.specs.Grammars.{endOfTokens, Production, Names, View}
 use Rattle.grammar.specs.Nonterminals.{nonterminal}
 use Rattle.grammar.specs.Classes.{typeName}

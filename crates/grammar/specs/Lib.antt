@@ -1,21 +1,14 @@
--- Grammars as data, their derivations and the leftmost reading; the table of NURL; the answer and the demands.
+-- Grammars as data, their derivations and the leftmost reading; the table of NURL.
 pub mod Grammars
 pub mod Rows
 pub mod Derivations
 pub mod Forests
 pub mod First
 pub mod Reading
-pub mod RowKinds
 pub mod Nonterminals
 pub mod Classes
 pub mod Questions
 pub mod Nurl
-pub mod Alternatives
-pub mod Forms
 pub mod Languages
 pub mod Sources
-pub mod TreeTable
-pub mod Answers
-pub mod Examples
-pub mod Demands
 pub mod internal

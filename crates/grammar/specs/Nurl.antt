@@ -9,9 +9,9 @@ use mathlib.Core.List.{List, [], _∷_, _++_, map}
 use Rattle.lexer.specs.Text.{bytes}
 use Rattle.lexer.specs.Names.{positionFrom}
 use Rattle.lexer.specs.Kinds.{tokenKind}
-use Rattle.grammar.specs.Grammars.{Condition, next, query, Symbol, token, part as derived, when, unless, Makes, row as makesRow}
-use Rattle.grammar.specs.Grammars.{rowOf, says as saysRow, noRow, Production}
-use Rattle.grammar.specs.RowKinds.{rowKind}
+use Rattle.grammar.specs.Grammars.{Condition, next, query, Symbol, token, derived, when, unless, Makes, givesRow, rowOf}
+use Rattle.grammar.specs.Grammars.{givesKind, noRow, Production}
+use Rattle.tree.specs.RowKinds.{rowKind}
 use Rattle.grammar.specs.Nonterminals.{nonterminal}
 use Rattle.typenames.specs.TypeNames.{opening17}
 use Rattle.grammar.specs.Classes.{classesOf}
@@ -22,10 +22,10 @@ abbrev pub rule : String → Makes → List Symbol → Production
 rule left makes right = record { left = nonterminal left; makes = makes; right = right }
 
 abbrev pub row : String → Makes
-row kind = makesRow (rowKind kind)
+row kind = givesRow (rowKind kind)
 
 abbrev pub says : String → Makes
-says kind = saysRow (rowKind kind)
+says kind = givesKind (rowKind kind)
 
 abbrev pub part : String → Symbol
 part name = derived (nonterminal name)
@@ -38,8 +38,8 @@ abbrev pub any : List String → Symbol
 any kinds = token (classesOf kinds)
 
 -- BIN_OP = '+' | '-' | '*' | '/' | '%' | '<' | '>' | '==' | '!=' | '<=' | '>=' | '<<' | '>>' | '&' | '|'
-abbrev pub operators : List String
-operators = "+" ∷ "-" ∷ "*" ∷ "/" ∷ "%" ∷ "<" ∷ ">" ∷ "==" ∷ "!=" ∷ "<=" ∷ ">=" ∷ "<<" ∷ ">>" ∷ "&" ∷ "|" ∷ []
+abbrev pub binaryMarks : List String
+binaryMarks = "+" ∷ "-" ∷ "*" ∷ "/" ∷ "%" ∷ "<" ∷ ">" ∷ "==" ∷ "!=" ∷ "<=" ∷ ">=" ∷ "<<" ∷ ">>" ∷ "&" ∷ "|" ∷ []
 
 -- any number of a symbol, and one or none
 abbrev pub many : String → Symbol → List Production
@@ -193,7 +193,7 @@ productions =
     rule "expression" noRow (part "literal" ∷ []) ∷
     rule "expression" (row "name as expression") (one "IDENT" ∷ []) ∷
     -- bin_expr = BIN_OP expr expr
-    rule "expression" (row "binary") (any operators ∷ part "expression" ∷ part "expression" ∷ []) ∷
+    rule "expression" (row "binary") (any binaryMarks ∷ part "expression" ∷ part "expression" ∷ []) ∷
     -- not_expr = '!' expr; ret_expr = '^' expr; complement_expr = '~' expr
     rule "expression" (row "not") (one "!" ∷ part "expression" ∷ []) ∷
     rule "expression" (row "return") (one "^" ∷ part "expression" ∷ []) ∷

@@ -6,7 +6,7 @@ use lib.Dec.{eqb, ltb}
 use lib.ListN.{drop}
 use Rattle.lexer.specs.Tests.{and, or, pick, among}
 use Rattle.lexer.specs.Spellings.{same}
-use Rattle.typenames.specs.TypeNames.{Item}
+use Rattle.lexer.specs.Items.{Item}
 
 pub data Piece : Type 0 where
   -- a token of one of these kinds

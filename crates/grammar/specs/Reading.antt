@@ -7,8 +7,9 @@ use mathlib.Core.List.{List, [], _∷_, _++_}
 use lib.Dec.{eqb}
 use lib.ListN.{length}
 use Rattle.lexer.specs.Tests.{and, pick, among}
-use Rattle.grammar.specs.Grammars.{endOfTokens, next, Symbol, token, part, condition, when, Makes, Production, Names, View, met}
-use Rattle.grammar.specs.Rows.{Row, made, passed, firstSaid, levels}
+use Rattle.grammar.specs.Grammars.{endOfTokens, next, Symbol, token, derived, condition, when, Makes, Production, Names, View, met}
+use Rattle.tree.specs.TreeTable.{Row}
+use Rattle.grammar.specs.Rows.{made, passed, firstSaid, levels}
 use Rattle.grammar.specs.First.{canBegin, canSkip}
 
 pub data Outcome : Type 0 where
@@ -25,12 +26,12 @@ pub data Outcome : Type 0 where
 unfoldable pub ready : View → Names → ℕ → List Symbol → Bool
 ready v e i [] = true
 ready v e i (token cs ∷ ss) = true
-ready v e i (part x ∷ ss) = true
+ready v e i (derived x ∷ ss) = true
 ready v e i (condition b q ∷ ss) = let rest = ready v e i ss in and (met v e i b q) rest
 
 pub data Choice : Type 0 where
   none : Choice
-  one : Production → Choice
+  selected : Production → Choice
 
 -- the first production of a nonterminal that passes a test and whose conditions are met
 unfoldable pub find : View → Names → ℕ → ℕ → (Production → Bool) → List Production → Choice
@@ -39,18 +40,18 @@ find v e i x test (p ∷ ps) =
     let rest = find v e i x test ps in
     let conditions = ready v e i (p .right) in
     let fits = and (test p) conditions in
-    pick (and (eqb (p .left) x) fits) (one p) rest
+    pick (and (eqb (p .left) x) fits) (selected p) rest
 
-unfoldable pub orElse : Choice → Choice → Choice
-orElse none c = c
-orElse (one p) c = one p
+unfoldable pub otherwise : Choice → Choice → Choice
+otherwise none c = c
+otherwise (selected p) c = selected p
 
 -- the production of a nonterminal that the reading takes at a token
 unfoldable pub choice : List Production → View → Names → ℕ → ℕ → Choice
 choice g v e x i =
     let c = v .class e i in
     let other = find v e i x (canSkip g c) g in
-    orElse (find v e i x (canBegin g c) g) other
+    otherwise (find v e i x (canBegin g c) g) other
 
 -- what is read after a part that was read
 unfoldable pub onward : Outcome → (ℕ → List Row → ℕ → Outcome) → Outcome
@@ -67,7 +68,7 @@ descend (suc l) (suc left) i below = descend l left i below
 
 unfoldable pub enter : Choice → ℕ → ℕ → (Production → ℕ → Outcome) → Outcome
 enter none left i within = stuck i
-enter (one p) left i within = descend (levels (p .makes)) left i (within p)
+enter (selected p) left i within = descend (levels (p .makes)) left i (within p)
 
 -- a production read from i to j, and what comes after it
 unfoldable pub joined : Makes → ℕ → ℕ → List Row → ℕ → ℕ → List Row → ℕ → Outcome
@@ -83,7 +84,7 @@ readWithin g v (suc fuel) e n (token cs ∷ ss) i =
 readWithin g v (suc fuel) e n (condition b q ∷ ss) i =
     let rest = readWithin g v fuel e n ss i in
     pick (met v e i b q) rest (stuck i)
-readWithin g v (suc fuel) e n (part x ∷ ss) i =
+readWithin g v (suc fuel) e n (derived x ∷ ss) i =
     enter (choice g v (v .inside x i e) x i) n i (λ (p : Production) (below : ℕ).
     onward (readWithin g v fuel (v .inside x i e) below (p .right) i) (λ (j : ℕ) (inner : List Row) (said : ℕ).
     onward (readWithin g v fuel e n ss j) (joined (p .makes) i j inner said)))
@@ -95,7 +96,7 @@ breadth (p ∷ ps) = suc (length (p .right)) + breadth ps
 
 -- a nonterminal and then the end of the tokens
 abbrev pub whole : ℕ → List Symbol
-whole x = part x ∷ when (next (endOfTokens ∷ [])) ∷ []
+whole x = derived x ∷ when (next (endOfTokens ∷ [])) ∷ []
 
 -- The reading of a token list of so many tokens, under the names e and with n levels. Its fuel is any that suffices: for a table
 -- that passes the tests it is never spent (`never-spent` in proofs/), and more changes nothing (`more-fuel`).

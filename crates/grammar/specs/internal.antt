@@ -1,5 +1,6 @@
--- What functions promise each other and proofs cite. Nothing that a caller of `nurl::read` has to believe depends on it.
-pub mod RowKinds
-pub mod Nonterminals
-pub mod Nurl
+-- What the readers look up in the grammar. The promise of `nurl` does not depend on it.
+pub mod Alternatives
 pub mod Classes
+pub mod Forms
+pub mod Nonterminals
+pub mod Productions

@@ -2,7 +2,7 @@
 use crate::tables;
 ghost use mathlib.Core.Path.{_≡_};
 ghost use Rattle.grammar.specs.internal.Nonterminals.{type, expression, statement, declaration};
-ghost use Rattle.grammar.specs.Alternatives.{kindAlternative};
+ghost use Rattle.grammar.specs.internal.Alternatives.{kindAlternative};
 
 // The kinds of tokens are from 1 to this one.
 const LAST_KIND: u32 = 42;

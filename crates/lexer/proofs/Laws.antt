@@ -19,3 +19,4 @@ pub mod Fills
 pub mod Answers
 pub mod Examples
 pub mod Kinds
+pub mod Items

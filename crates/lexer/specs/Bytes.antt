@@ -5,8 +5,6 @@ use mathlib.Core.Bool.{Bool, false, not}
 use mathlib.Core.List.{List, [], _∷_}
 use lib.Dec.{eqb}
 use Rattle.lexer.specs.Tests.{or, between, pick}
-use Rattle.lexer.specs.declared.Class.{Class}
-use Rattle.lexer.specs.declared.Class.the-variants.{Space, Digit, Word, Line, Text}
 
 -- "Skipped: bytes 32, 9, 10, 13"
 unfoldable pub isSpace : ℕ → Bool
@@ -30,14 +28,6 @@ isInLine b = not (eqb b 10)
 -- what a string goes on over: "to next backtick"
 unfoldable pub isInString : ℕ → Bool
 isInString b = not (eqb b (code "`"))
-
--- each class by its name
-abbrev pub member : Class → ℕ → Bool
-member Space = isSpace
-member Digit = isDigit
-member Word = isWordByte
-member Line = isInLine
-member Text = isInString
 
 -- whether one of two bytes stands at the front
 unfoldable pub beginsEither : ℕ → ℕ → List ℕ → Bool

@@ -12,5 +12,5 @@ pub mod Lexemes
 pub mod Tokens
 pub mod Table
 pub mod Examples
-pub mod Leaves
 pub mod internal
+pub mod Items

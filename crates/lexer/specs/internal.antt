@@ -1,2 +1,6 @@
--- What functions promise each other and proofs cite. Nothing that a caller of `nurl::read` has to believe depends on it.
+-- What the functions of this crate promise each other and the crates above. The promise of `nurl` does not depend on it.
+pub mod Class
 pub mod Kinds
+pub mod Leaves
+pub mod TokenRows
+pub mod Tokenized

@@ -6,6 +6,7 @@ mod marks;
 mod numbers;
 mod runs;
 mod table;
+mod text;
 mod tokens;
 mod words;
 
@@ -16,6 +17,7 @@ pub use table::kind_at;
 pub use table::room;
 pub use table::size_at;
 pub use table::start_at;
+pub use text::text_at;
 pub use tokens::SOURCE_LIMIT;
 pub use tokens::count_tokens;
 pub use tokens::tokenize;

@@ -4,8 +4,9 @@ ghost use mathlib.Core.Path.{_≡_};
 ghost use Prim.Native.Nat.{_+_, _-_, _≤_};
 ghost use mathlib.Core.Bool.{true};
 ghost use lib.ListN.{length, drop};
-ghost use Rattle.lexer.specs.Bytes.{isSpace, isDigit, isWordByte, member, run};
-ghost use Rattle.lexer.specs.Leaves.{isNot, Goes};
+ghost use Rattle.lexer.specs.Bytes.{isSpace, isDigit, isWordByte, run};
+ghost use Rattle.lexer.specs.internal.Class.{member};
+ghost use Rattle.lexer.specs.internal.Leaves.{isNot, Goes};
 
 // Whether a byte is a space.
 fn is_space(b: u8) -> bool

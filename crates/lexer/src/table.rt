@@ -3,8 +3,9 @@ ghost use mathlib.Core.Path.{_≡_};
 ghost use Prim.Native.Nat.{_+_, _*_, _≤_, _<_};
 ghost use lib.ListN.{length, getD};
 ghost use lib.Seq.{sets};
-ghost use Rattle.lexer.specs.Table.{tokenWidth, tokenRoom, rowAt, kindAt, startAt, sizeAt};
-ghost use Rattle.lexer.specs.Leaves.{rowNumbers, ownNumbers};
+ghost use Rattle.lexer.specs.Table.{tokenWidth, tokenRoom};
+ghost use Rattle.lexer.specs.internal.TokenRows.{rowAt, kindAt, startAt, sizeAt};
+ghost use Rattle.lexer.specs.internal.Leaves.{rowNumbers, ownNumbers};
 
 // How many numbers a row has.
 pub const WIDTH: usize = 3;

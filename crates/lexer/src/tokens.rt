@@ -9,8 +9,8 @@ ghost use Prim.Native.Nat.{_+_, _*_, _≤_};
 ghost use lib.ListN.{length};
 ghost use Rattle.lexer.specs.Editions.{edition17};
 ghost use Rattle.lexer.specs.Tokens.{Scan, clean, scan};
-ghost use Rattle.lexer.specs.Table.{sourceLimit, tokenWidth, filled, scannedValues, counted, countedValues};
-ghost use Rattle.lexer.specs.Table.{tokenized, tokenizedValues, tableAfter};
+ghost use Rattle.lexer.specs.Table.{sourceLimit, tokenWidth, filled};
+ghost use Rattle.lexer.specs.internal.Tokenized.{scannedValues, counted, countedValues, tokenized, tokenizedValues, tableAfter};
 
 // The most bytes that a source may have.
 pub const SOURCE_LIMIT: usize = 1048576;

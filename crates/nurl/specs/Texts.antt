@@ -1,15 +1,14 @@
 -- The text of an answer, as the desk program prints it, and what a lent output holds when a text is written into it.
 use Prim.Native.Char.{code}
 use Prim.Native.Nat.{ℕ, zero, suc, _+_, _*_, _/_, _%_, min}
-use mathlib.Core.Path.{_≡_}
 use mathlib.Core.List.{List, [], _∷_, _++_}
 use lib.Dec.{leb, ltb}
 use lib.ListN.{length, take, drop, getD}
 use Rattle.lexer.specs.Tests.{pick}
 use Rattle.lexer.specs.Text.{bytes}
-use Rattle.grammar.specs.TreeTable.{treeWidth, treeRoom}
-use Rattle.grammar.specs.declared.Answer.{Answer}
-use Rattle.grammar.specs.declared.Answer.the-variants.{Accepted, Refused}
+use Rattle.tree.specs.TreeTable.{treeWidth, treeRoom}
+use Rattle.answer.specs.declared.Answer.{Answer}
+use Rattle.answer.specs.declared.Answer.the-variants.{Accepted, Refused}
 use Rattle.nurl.specs.declared.Written.{Written}
 use Rattle.nurl.specs.declared.Written.the-variants.{Whole, Cut}
 
@@ -35,19 +34,19 @@ abbrev pub newline : ℕ
 newline = 10
 
 -- a number and the byte after it
-abbrev pub number : ℕ → ℕ → List ℕ
-number n end = decimal n ++ (end ∷ [])
+abbrev pub numberText : ℕ → ℕ → List ℕ
+numberText n end = decimal n ++ (end ∷ [])
 
 -- a line of a word and two numbers
 abbrev pub line : List ℕ → ℕ → ℕ → List ℕ
-line word a b = word ++ (number a space ++ number b newline)
+line word a b = word ++ (numberText a space ++ numberText b newline)
 
 -- the line of a row of a tree table
 abbrev pub rowLine : List ℕ → ℕ → List ℕ
 rowLine table r =
     let at = r * treeWidth in
-    let third = number (getD table (at + 2) 0) space ++ number (getD table (at + 3) 0) newline in
-    number (getD table at 0) space ++ (number (getD table (at + 1) 0) space ++ third)
+    let third = numberText (getD table (at + 2) 0) space ++ numberText (getD table (at + 3) 0) newline in
+    numberText (getD table at 0) space ++ (numberText (getD table (at + 1) 0) space ++ third)
 
 -- the lines of its first rows, so many of them
 unfoldable pub rowLines : List ℕ → ℕ → List ℕ
@@ -58,7 +57,7 @@ rowLines table (suc n) = rowLines table n ++ rowLine table n
 -- to print
 unfoldable pub answerText : Answer → List ℕ → List ℕ
 answerText (Accepted tokens rows) table = line (bytes "accepted ") tokens rows ++ rowLines table (min rows (treeRoom table))
-answerText (Refused number place) table = line (bytes "refused ") number place
+answerText (Refused numberText place) table = line (bytes "refused ") numberText place
 
 -- how much of a text is written into so many bytes
 unfoldable pub written : List ℕ → ℕ → Written
@@ -72,13 +71,3 @@ bytesWritten Cut room = room
 -- an output that a text was written into: as much of the text as it has room for, and what it held after that
 unfoldable pub overwritten : List ℕ → List ℕ → List ℕ
 overwritten text output = take (length output) text ++ drop (length text) output
-
--- an output that held `before` holds a text, written as far as it is
-pub record Holds (text before : List ℕ) (so-far : Written) (output : List ℕ) : Type 0 where
-  pub says : so-far ≡ written text (length before)
-  pub leaves : output ≡ overwritten text before
-
--- some bytes are written after whatever the output holds
-abbrev pub Appends : List ℕ → Written → List ℕ → Written → List ℕ → Type 0
-Appends more from output to after =
-    (text before : List ℕ) → Holds text before from output → Holds (text ++ more) before to after

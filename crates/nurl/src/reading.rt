@@ -1,8 +1,7 @@
 // From bytes to rows: document 01's refusals in their order, or acceptance, and what both tables hold afterwards.
-use grammar::Answer;
+use answer::Answer;
 use lexer::Scanned;
 use parser::Step;
-use parser::tree;
 use typenames::Checked;
 use typenames::Scope;
 ghost use mathlib.Core.Path.{_≡_};
@@ -10,12 +9,13 @@ ghost use Prim.Native.Nat.{_≤_};
 ghost use lib.ListN.{length, replicate};
 ghost use Rattle.lexer.specs.Editions.{edition17};
 ghost use Rattle.lexer.specs.Tokens.{cleanly, scan};
-ghost use Rattle.lexer.specs.Table.{sourceLimit, rowsOf};
+ghost use Rattle.lexer.specs.Table.{sourceLimit};
+ghost use Rattle.lexer.specs.internal.TokenRows.{rowsOf};
 ghost use Rattle.typenames.specs.NameList.{nameLimit};
 ghost use Rattle.grammar.specs.Languages.{language17};
-ghost use Rattle.grammar.specs.Answers.{values, Result, answer17, answerValues};
-ghost use Rattle.grammar.specs.Demands.{Demands};
-ghost use Rattle.nurl.specs.Results.{treeResult};
+ghost use Rattle.answer.specs.Answers.{values, Result, answer17, answerValues};
+ghost use Rattle.answer.specs.Demands.{Demands};
+ghost use Rattle.nurl.specs.internal.Results.{treeResult};
 
 // The most levels that rows may be nested: "where that row would be at level 201" it is too deep.
 const LEVEL_LIMIT: usize = 200;

@@ -1,5 +1,4 @@
 -- Laws of readings, of what is put into a tree table, of the steps of the readers and of the questions that they ask.
-pub mod Trees
 pub mod Steps
 pub mod Gives
 pub mod After

@@ -2,13 +2,12 @@
 use crate::Step;
 use crate::expressions;
 use crate::questions;
-use crate::row_kinds;
 use crate::steps;
-use crate::tree;
 use crate::types;
 use crate::words;
 use grammar::forms;
 use lexer::kinds;
+use tree::row_kinds;
 use typenames::Scope;
 ghost use mathlib.Core.Path.{_≡_};
 ghost use mathlib.Core.Bool.{true, false};
@@ -16,21 +15,21 @@ ghost use mathlib.Core.List.{[], _∷_};
 ghost use Prim.Native.Nat.{ℕ, _<_};
 ghost use lib.Dec.{eqb};
 ghost use Rattle.lexer.specs.internal.Kinds.{at as atSign, bar};
-ghost use Rattle.grammar.specs.Grammars.{query, part};
+ghost use Rattle.grammar.specs.Grammars.{query, derived};
 ghost use Rattle.grammar.specs.internal.Nonterminals.{declaration as aDeclaration, functions as functionList, function as aFunction};
 ghost use Rattle.grammar.specs.internal.Nonterminals.{methods as methodList, method as aMethod, variants as variantList};
 ghost use Rattle.grammar.specs.internal.Nonterminals.{variant as aVariant, payloadTypes, program as aProgram};
 ghost use Rattle.grammar.specs.Nurl.{plainName};
-ghost use Rattle.grammar.specs.internal.Nurl.{opensStruct};
-ghost use Rattle.grammar.specs.Alternatives.{kindAlternative};
-ghost use Rattle.grammar.specs.TreeTable.{cleared};
-ghost use Rattle.parser.specs.Steps.{Tokens, Within, nextKind, begins, askedAt, AnswersKinds, payloadBegins, opened};
-ghost use Rattle.parser.specs.Readings.{namesIn, ReadsIn, ReadsKinds, ReadsAll, ReadsWhole};
+ghost use Rattle.grammar.specs.internal.Productions.{opensStruct};
+ghost use Rattle.grammar.specs.internal.Alternatives.{kindAlternative};
+ghost use Rattle.tree.specs.TreeTable.{cleared};
+ghost use Rattle.parser.specs.internal.Steps.{Tokens, Within, nextKind, beginsPart, askedAt, AnswersKinds, payloadBegins, opened};
+ghost use Rattle.parser.specs.internal.Readings.{namesIn, ReadsIn, ReadsKinds, ReadsAll, ReadsWhole};
 ghost use Rattle.parser.specs.declared.Step.the-variants.{Refused};
 
 // Whether the next token begins a declaration.
 fn begins_declaration(tokens: &[u32], step: Step) -> bool
-    ensures { λ r. ⌜ r ≡ begins aDeclaration (now (tokens .entry)) step ⌝ }
+    ensures { λ r. ⌜ r ≡ beginsPart aDeclaration (now (tokens .entry)) step ⌝ }
 {
     let kind = steps::next_kind(tokens, step);
     0 < grammar::declaration_alternative(kind)
@@ -39,7 +38,7 @@ fn begins_declaration(tokens: &[u32], step: Step) -> bool
 // A declaration.
 fn declaration(
     source: &[u8],
-    names: &[u8],
+    prepared: &[u8],
     tokens: &[u32],
     rows: &mut [u32],
     scope: Scope,
@@ -48,7 +47,7 @@ fn declaration(
 ) -> Step
     requires { ⌜ Tokens (now tokens) ⌝ }
     requires { ⌜ Within (now tokens) 1 from ⌝ }
-    ensures { λ r. ⌜ ReadsIn (now (source .entry)) (now (names .entry)) (now (tokens .entry)) scope left 1 aDeclaration
+    ensures { λ r. ⌜ ReadsIn (now (source .entry)) (now (prepared .entry)) (now (tokens .entry)) scope left 1 aDeclaration
         from (now (rows .entry)) r (now (rows .exit)) ⌝ }
 {
     let kind = steps::next_kind(tokens, from);
@@ -62,9 +61,17 @@ fn declaration(
     match form {
         forms::DECLARATION_IMPORT => import(tokens, rows, from, left),
         forms::DECLARATION_FOREIGN => foreign(tokens, rows, from, left),
-        forms::DECLARATION_FUNCTION => function(source, names, tokens, rows, scope, from, left),
-        forms::DECLARATION_DEFINITION => definition(source, names, tokens, rows, scope, from, left),
-        _ => interface(source, names, tokens, rows, scope, from, left),
+        forms::DECLARATION_FUNCTION => function(source, prepared, tokens, rows, scope, from, left),
+        forms::DECLARATION_DEFINITION => definition(
+            source,
+            prepared,
+            tokens,
+            rows,
+            scope,
+            from,
+            left,
+        ),
+        _ => interface(source, prepared, tokens, rows, scope, from, left),
     }
 }
 
@@ -103,7 +110,7 @@ fn foreign(tokens: &[u32], rows: &mut [u32], from: Step, left: usize) -> Step
 // A function.
 fn function(
     source: &[u8],
-    names: &[u8],
+    prepared: &[u8],
     tokens: &[u32],
     rows: &mut [u32],
     scope: Scope,
@@ -113,7 +120,7 @@ fn function(
     requires { ⌜ Tokens (now tokens) ⌝ }
     requires { ⌜ Within (now tokens) 1 from ⌝ }
     requires { ⌜ nextKind (now tokens) from ≡ atSign ⌝ }
-    ensures { λ r. ⌜ ReadsIn (now (source .entry)) (now (names .entry)) (now (tokens .entry)) scope left 1 aFunction
+    ensures { λ r. ⌜ ReadsIn (now (source .entry)) (now (prepared .entry)) (now (tokens .entry)) scope left 1 aFunction
         from (now (rows .entry)) r (now (rows .exit)) ⌝ }
 {
     if left == 0 {
@@ -125,14 +132,14 @@ fn function(
     let given = types::parameters(tokens, rows, listed, left - 1);
     let arrowed = steps::take(tokens, given, kinds::ARROW);
     let typed = types::read_type(tokens, rows, arrowed, left - 1);
-    let ended = expressions::block(source, names, tokens, rows, scope, typed, left - 1);
+    let ended = expressions::block(source, prepared, tokens, rows, scope, typed, left - 1);
     steps::close_row(rows, from, ended, row_kinds::FUNCTION)
 }
 
 // As many functions as there are.
 fn functions(
     source: &[u8],
-    names: &[u8],
+    prepared: &[u8],
     tokens: &[u32],
     rows: &mut [u32],
     scope: Scope,
@@ -141,12 +148,12 @@ fn functions(
 ) -> Step
     requires { ⌜ Tokens (now tokens) ⌝ }
     requires { ⌜ Within (now tokens) 0 from ⌝ }
-    ensures { λ r. ⌜ ReadsIn (now (source .entry)) (now (names .entry)) (now (tokens .entry)) scope left 0 functionList
+    ensures { λ r. ⌜ ReadsIn (now (source .entry)) (now (prepared .entry)) (now (tokens .entry)) scope left 0 functionList
         from (now (rows .entry)) r (now (rows .exit)) ⌝ }
 {
     let mut step = from;
     while steps::next_is(tokens, step, kinds::AT) {
-        step = function(source, names, tokens, rows, scope, step, left);
+        step = function(source, prepared, tokens, rows, scope, step, left);
     }
     step
 }
@@ -154,7 +161,7 @@ fn functions(
 // A method of a trait: a function, or the header of one.
 fn method(
     source: &[u8],
-    names: &[u8],
+    prepared: &[u8],
     tokens: &[u32],
     rows: &mut [u32],
     scope: Scope,
@@ -164,7 +171,7 @@ fn method(
     requires { ⌜ Tokens (now tokens) ⌝ }
     requires { ⌜ Within (now tokens) 1 from ⌝ }
     requires { ⌜ nextKind (now tokens) from ≡ atSign ⌝ }
-    ensures { λ r. ⌜ ReadsIn (now (source .entry)) (now (names .entry)) (now (tokens .entry)) scope left 1 aMethod
+    ensures { λ r. ⌜ ReadsIn (now (source .entry)) (now (prepared .entry)) (now (tokens .entry)) scope left 1 aMethod
         from (now (rows .entry)) r (now (rows .exit)) ⌝ }
 {
     if left == 0 {
@@ -177,7 +184,7 @@ fn method(
     let arrowed = steps::take(tokens, given, kinds::ARROW);
     let typed = types::read_type(tokens, rows, arrowed, left - 1);
     if steps::next_is(tokens, typed, kinds::LEFT_BRACE) {
-        let ended = expressions::block(source, names, tokens, rows, scope, typed, left - 1);
+        let ended = expressions::block(source, prepared, tokens, rows, scope, typed, left - 1);
         return steps::close_row(rows, from, ended, row_kinds::FUNCTION);
     }
     steps::close_row(rows, from, typed, row_kinds::HEADER)
@@ -186,7 +193,7 @@ fn method(
 // As many methods as there are.
 fn methods(
     source: &[u8],
-    names: &[u8],
+    prepared: &[u8],
     tokens: &[u32],
     rows: &mut [u32],
     scope: Scope,
@@ -195,12 +202,12 @@ fn methods(
 ) -> Step
     requires { ⌜ Tokens (now tokens) ⌝ }
     requires { ⌜ Within (now tokens) 0 from ⌝ }
-    ensures { λ r. ⌜ ReadsIn (now (source .entry)) (now (names .entry)) (now (tokens .entry)) scope left 0 methodList
+    ensures { λ r. ⌜ ReadsIn (now (source .entry)) (now (prepared .entry)) (now (tokens .entry)) scope left 0 methodList
         from (now (rows .entry)) r (now (rows .exit)) ⌝ }
 {
     let mut step = from;
     while steps::next_is(tokens, step, kinds::AT) {
-        step = method(source, names, tokens, rows, scope, step, left);
+        step = method(source, prepared, tokens, rows, scope, step, left);
     }
     step
 }
@@ -208,7 +215,7 @@ fn methods(
 // A trait, or the implementation of one for a type.
 fn interface(
     source: &[u8],
-    names: &[u8],
+    prepared: &[u8],
     tokens: &[u32],
     rows: &mut [u32],
     scope: Scope,
@@ -219,7 +226,7 @@ fn interface(
     requires { ⌜ Within (now tokens) 1 from ⌝ }
     requires { ⌜ 0 < left ⌝ }
     requires { ⌜ kindAlternative aDeclaration (nextKind (now tokens) from) ≡ 5 ⌝ }
-    ensures { λ r. ⌜ ReadsIn (now (source .entry)) (now (names .entry)) (now (tokens .entry)) scope left 1 aDeclaration
+    ensures { λ r. ⌜ ReadsIn (now (source .entry)) (now (prepared .entry)) (now (tokens .entry)) scope left 1 aDeclaration
         from (now (rows .entry)) r (now (rows .exit)) ⌝ }
 {
     let opened = steps::open_row(from);
@@ -227,13 +234,13 @@ fn interface(
     let listed = words::optional_list(tokens, rows, named, left - 1, false);
     if steps::next_is(tokens, listed, kinds::LEFT_BRACE) {
         let braced = steps::take(tokens, listed, kinds::LEFT_BRACE);
-        let held = methods(source, names, tokens, rows, scope, braced, left - 1);
+        let held = methods(source, prepared, tokens, rows, scope, braced, left - 1);
         let ended = steps::take(tokens, held, kinds::RIGHT_BRACE);
         return steps::close_row(rows, from, ended, row_kinds::TRAIT);
     }
     let typed = types::read_type(tokens, rows, listed, left - 1);
     let braced = steps::take(tokens, typed, kinds::LEFT_BRACE);
-    let held = functions(source, names, tokens, rows, scope, braced, left - 1);
+    let held = functions(source, prepared, tokens, rows, scope, braced, left - 1);
     let ended = steps::take(tokens, held, kinds::RIGHT_BRACE);
     steps::close_row(rows, from, ended, row_kinds::IMPL)
 }
@@ -241,7 +248,7 @@ fn interface(
 // A struct, an enum or a constant, by what follows its `:`.
 fn definition(
     source: &[u8],
-    names: &[u8],
+    prepared: &[u8],
     tokens: &[u32],
     rows: &mut [u32],
     scope: Scope,
@@ -252,7 +259,7 @@ fn definition(
     requires { ⌜ Within (now tokens) 1 from ⌝ }
     requires { ⌜ 0 < left ⌝ }
     requires { ⌜ kindAlternative aDeclaration (nextKind (now tokens) from) ≡ 4 ⌝ }
-    ensures { λ r. ⌜ ReadsIn (now (source .entry)) (now (names .entry)) (now (tokens .entry)) scope left 1 aDeclaration
+    ensures { λ r. ⌜ ReadsIn (now (source .entry)) (now (prepared .entry)) (now (tokens .entry)) scope left 1 aDeclaration
         from (now (rows .entry)) r (now (rows .exit)) ⌝ }
 {
     let opened = steps::open_row(from);
@@ -260,7 +267,7 @@ fn definition(
         return structure(tokens, rows, from, left);
     }
     if steps::next_is(tokens, opened, kinds::BAR) {
-        return enumeration(source, names, tokens, rows, scope, from, left);
+        return enumeration(source, prepared, tokens, rows, scope, from, left);
     }
     constant(tokens, rows, from, left)
 }
@@ -286,7 +293,7 @@ fn structure(tokens: &[u32], rows: &mut [u32], from: Step, left: usize) -> Step
 // An enum.
 fn enumeration(
     source: &[u8],
-    names: &[u8],
+    prepared: &[u8],
     tokens: &[u32],
     rows: &mut [u32],
     scope: Scope,
@@ -298,14 +305,14 @@ fn enumeration(
     requires { ⌜ 0 < left ⌝ }
     requires { ⌜ kindAlternative aDeclaration (nextKind (now tokens) from) ≡ 4 ⌝ }
     requires { ⌜ nextKind (now tokens) (opened from) ≡ bar ⌝ }
-    ensures { λ r. ⌜ ReadsIn (now (source .entry)) (now (names .entry)) (now (tokens .entry)) scope left 1 aDeclaration
+    ensures { λ r. ⌜ ReadsIn (now (source .entry)) (now (prepared .entry)) (now (tokens .entry)) scope left 1 aDeclaration
         from (now (rows .entry)) r (now (rows .exit)) ⌝ }
 {
     let opened = steps::open_row(from);
     let marked = steps::take(tokens, opened, kinds::BAR);
     let named = steps::take(tokens, marked, kinds::IDENT);
     let braced = steps::take(tokens, named, kinds::LEFT_BRACE);
-    let held = variants(source, names, tokens, rows, scope, braced, left - 1);
+    let held = variants(source, prepared, tokens, rows, scope, braced, left - 1);
     let ended = steps::take(tokens, held, kinds::RIGHT_BRACE);
     steps::close_row(rows, from, ended, row_kinds::ENUM)
 }
@@ -331,7 +338,7 @@ fn constant(tokens: &[u32], rows: &mut [u32], from: Step, left: usize) -> Step
 // As many variants as there are; by rule 4 each begins with a name that is not a type name.
 fn variants(
     source: &[u8],
-    names: &[u8],
+    prepared: &[u8],
     tokens: &[u32],
     rows: &mut [u32],
     scope: Scope,
@@ -340,12 +347,12 @@ fn variants(
 ) -> Step
     requires { ⌜ Tokens (now tokens) ⌝ }
     requires { ⌜ Within (now tokens) 0 from ⌝ }
-    ensures { λ r. ⌜ ReadsIn (now (source .entry)) (now (names .entry)) (now (tokens .entry)) scope left 0 variantList
+    ensures { λ r. ⌜ ReadsIn (now (source .entry)) (now (prepared .entry)) (now (tokens .entry)) scope left 0 variantList
         from (now (rows .entry)) r (now (rows .exit)) ⌝ }
 {
     let mut step = from;
-    while questions::plain_name(source, names, tokens, scope, step) {
-        step = variant(source, names, tokens, rows, scope, step, left);
+    while questions::plain_name(source, prepared, tokens, scope, step) {
+        step = variant(source, prepared, tokens, rows, scope, step, left);
     }
     step
 }
@@ -353,7 +360,7 @@ fn variants(
 // A variant: its name and its payload types.
 fn variant(
     source: &[u8],
-    names: &[u8],
+    prepared: &[u8],
     tokens: &[u32],
     rows: &mut [u32],
     scope: Scope,
@@ -362,8 +369,8 @@ fn variant(
 ) -> Step
     requires { ⌜ Tokens (now tokens) ⌝ }
     requires { ⌜ Within (now tokens) 0 from ⌝ }
-    requires { ⌜ askedAt plainName (now source) (now tokens) (namesIn (now source) (now names) (now tokens) scope) from ≡ true ⌝ }
-    ensures { λ r. ⌜ ReadsIn (now (source .entry)) (now (names .entry)) (now (tokens .entry)) scope left 1 aVariant
+    requires { ⌜ askedAt plainName (now source) (now tokens) (namesIn (now source) (now prepared) (now tokens) scope) from ≡ true ⌝ }
+    ensures { λ r. ⌜ ReadsIn (now (source .entry)) (now (prepared .entry)) (now (tokens .entry)) scope left 1 aVariant
         from (now (rows .entry)) r (now (rows .exit)) ⌝ }
 {
     if left == 0 {
@@ -371,22 +378,22 @@ fn variant(
     }
     let inner = steps::reserve_row(from);
     let named = steps::take(tokens, inner, kinds::IDENT);
-    let held = payload_types(source, names, tokens, rows, scope, named, left - 1);
+    let held = payload_types(source, prepared, tokens, rows, scope, named, left - 1);
     steps::close_row(rows, from, held, row_kinds::VARIANT)
 }
 
 // Rule 4: whether the next token begins a payload's type.
 fn begins_payload_type(
     source: &[u8],
-    names: &[u8],
+    prepared: &[u8],
     tokens: &[u32],
     scope: Scope,
     step: Step,
 ) -> bool
     ensures { λ r. ⌜ r ≡ payloadBegins (now (source .entry)) (now (tokens .entry))
-        (namesIn (now (source .entry)) (now (names .entry)) (now (tokens .entry)) scope) step ⌝ }
+        (namesIn (now (source .entry)) (now (prepared .entry)) (now (tokens .entry)) scope) step ⌝ }
 {
-    if questions::plain_name(source, names, tokens, scope, step) {
+    if questions::plain_name(source, prepared, tokens, scope, step) {
         return false;
     }
     types::begins_type(tokens, step)
@@ -395,7 +402,7 @@ fn begins_payload_type(
 // As many payload types as there are.
 fn payload_types(
     source: &[u8],
-    names: &[u8],
+    prepared: &[u8],
     tokens: &[u32],
     rows: &mut [u32],
     scope: Scope,
@@ -404,11 +411,11 @@ fn payload_types(
 ) -> Step
     requires { ⌜ Tokens (now tokens) ⌝ }
     requires { ⌜ Within (now tokens) 0 from ⌝ }
-    ensures { λ r. ⌜ ReadsIn (now (source .entry)) (now (names .entry)) (now (tokens .entry)) scope left 0 payloadTypes
+    ensures { λ r. ⌜ ReadsIn (now (source .entry)) (now (prepared .entry)) (now (tokens .entry)) scope left 0 payloadTypes
         from (now (rows .entry)) r (now (rows .exit)) ⌝ }
 {
     let mut step = from;
-    while begins_payload_type(source, names, tokens, scope, step) {
+    while begins_payload_type(source, prepared, tokens, scope, step) {
         step = types::read_type(tokens, rows, step, left);
     }
     step
@@ -417,14 +424,14 @@ fn payload_types(
 // A program: as many declarations as there are, below its row.
 fn program(
     source: &[u8],
-    names: &[u8],
+    prepared: &[u8],
     tokens: &[u32],
     rows: &mut [u32],
     scope: Scope,
     left: usize,
 ) -> Step
     requires { ⌜ Tokens (now tokens) ⌝ }
-    ensures { λ r. ⌜ ReadsAll (part aProgram ∷ []) (now (source .entry)) (now (names .entry)) (now (tokens .entry)) scope left
+    ensures { λ r. ⌜ ReadsAll (derived aProgram ∷ []) (now (source .entry)) (now (prepared .entry)) (now (tokens .entry)) scope left
         (now (rows .entry)) r (now (rows .exit)) ⌝ }
 {
     let from = Step::Read(0, 0);
@@ -433,7 +440,7 @@ fn program(
     }
     let mut step = steps::reserve_row(from);
     while begins_declaration(tokens, step) {
-        step = declaration(source, names, tokens, rows, scope, step, left - 1);
+        step = declaration(source, prepared, tokens, rows, scope, step, left - 1);
     }
     steps::close_row(rows, from, step, row_kinds::PROGRAM)
 }
@@ -441,17 +448,17 @@ fn program(
 // The whole program: as many declarations as there are, up to the end of the tokens.
 fn whole_program(
     source: &[u8],
-    names: &[u8],
+    prepared: &[u8],
     tokens: &[u32],
     rows: &mut [u32],
     scope: Scope,
     left: usize,
 ) -> Step
     requires { ⌜ Tokens (now tokens) ⌝ }
-    ensures { λ r. ⌜ ReadsWhole (now (source .entry)) (now (names .entry)) (now (tokens .entry)) scope left
+    ensures { λ r. ⌜ ReadsWhole (now (source .entry)) (now (prepared .entry)) (now (tokens .entry)) scope left
         (now (rows .entry)) r (now (rows .exit)) ⌝ }
 {
-    let read = program(source, names, tokens, rows, scope, left);
+    let read = program(source, prepared, tokens, rows, scope, left);
     // A refusal passes here: what follows it counts as the end.
     if steps::next_is(tokens, read, steps::END) {
         return read;
@@ -462,19 +469,19 @@ fn whole_program(
 // Reads a whole program into the whole rows of the tree table. A refusal leaves them all zero.
 pub fn read_program(
     source: &[u8],
-    names: &[u8],
+    prepared: &[u8],
     tokens: &[u32],
     rows: &mut [u32],
     scope: Scope,
     left: usize,
 ) -> Step
     requires { ⌜ Tokens (now tokens) ⌝ }
-    ensures reads { λ r. ⌜ ReadsWhole (now (source .entry)) (now (names .entry)) (now (tokens .entry)) scope left
+    ensures reads { λ r. ⌜ ReadsWhole (now (source .entry)) (now (prepared .entry)) (now (tokens .entry)) scope left
         (now (rows .entry)) r (now (rows .exit)) ⌝ }
     ensures refused { λ r. ⌜ ((number place : ℕ) → r ≡ Refused number place → now (rows .exit) ≡ cleared (now (rows .entry))) ⌝ }
 {
     let end = tree::room(rows) * tree::WIDTH;
-    let read = whole_program(source, names, tokens, &mut rows[..end], scope, left);
+    let read = whole_program(source, prepared, tokens, &mut rows[..end], scope, left);
     match read {
         Step::Refused(number, place) => {
             tree::clear(rows);

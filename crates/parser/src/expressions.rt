@@ -1,12 +1,12 @@
 // The readers of blocks, statements and expressions, which hold each other.
 use crate::Step;
 use crate::questions;
-use crate::row_kinds;
 use crate::steps;
 use crate::types;
 use crate::words;
 use grammar::forms;
 use lexer::kinds;
+use tree::row_kinds;
 use typenames::Scope;
 ghost use mathlib.Core.Path.{_≡_};
 ghost use mathlib.Core.Bool.{true};
@@ -17,15 +17,15 @@ ghost use Rattle.lexer.specs.internal.Kinds.{ident, boolean, int};
 ghost use Rattle.grammar.specs.internal.Nonterminals.{expression as anExpression, expressions as expressionList, literal as aLiteral};
 ghost use Rattle.grammar.specs.internal.Nonterminals.{selector as aSelector, arms as armList, arm as anArm, payload as aPayload};
 ghost use Rattle.grammar.specs.internal.Nonterminals.{payloads3, block as aBlock, statements as statementList, statement as aStatement};
-ghost use Rattle.grammar.specs.Alternatives.{kindAlternative};
-ghost use Rattle.parser.specs.Steps.{Tokens, Within, nextKind, begins};
-ghost use Rattle.parser.specs.Readings.{ReadsIn, ReadsTexts, ReadsKinds};
-ghost use Rattle.parser.specs.Forms.{operandCount, operationRow};
+ghost use Rattle.grammar.specs.internal.Alternatives.{kindAlternative};
+ghost use Rattle.parser.specs.internal.Steps.{Tokens, Within, nextKind, beginsPart};
+ghost use Rattle.parser.specs.internal.Readings.{ReadsIn, ReadsTexts, ReadsKinds};
+ghost use Rattle.parser.specs.internal.Operators.{operandCount, operationRow};
 
 // An expression.
 pub(crate) fn expression(
     source: &[u8],
-    names: &[u8],
+    prepared: &[u8],
     tokens: &[u32],
     rows: &mut [u32],
     scope: Scope,
@@ -34,7 +34,7 @@ pub(crate) fn expression(
 ) -> Step
     requires { ⌜ Tokens (now tokens) ⌝ }
     requires { ⌜ Within (now tokens) 1 from ⌝ }
-    ensures { λ r. ⌜ ReadsIn (now (source .entry)) (now (names .entry)) (now (tokens .entry)) scope left 1 anExpression
+    ensures { λ r. ⌜ ReadsIn (now (source .entry)) (now (prepared .entry)) (now (tokens .entry)) scope left 1 anExpression
         from (now (rows .entry)) r (now (rows .exit)) ⌝ }
 {
     let kind = steps::next_kind(tokens, from);
@@ -48,19 +48,29 @@ pub(crate) fn expression(
     let count = operand_count(form);
     if 0 < count {
         let row = operation_row(form);
-        return operation(source, names, tokens, rows, scope, from, left, count, row);
+        return operation(
+            source,
+            prepared,
+            tokens,
+            rows,
+            scope,
+            from,
+            left,
+            count,
+            row,
+        );
     }
     match form {
         forms::EXPRESSION_LITERAL => steps::leaf(rows, from, row_kinds::LITERAL),
         forms::EXPRESSION_NAME => steps::leaf(rows, from, row_kinds::NAME),
-        forms::EXPRESSION_TRY => try_or_closure(source, names, tokens, rows, scope, from, left),
+        forms::EXPRESSION_TRY => try_or_closure(source, prepared, tokens, rows, scope, from, left),
         forms::EXPRESSION_SIZEOF => size_of(tokens, rows, from, left),
-        forms::EXPRESSION_BLOCK => block(source, names, tokens, rows, scope, from, left),
-        forms::EXPRESSION_CALL => call(source, names, tokens, rows, scope, from, left),
-        forms::EXPRESSION_SLICE => slice(source, names, tokens, rows, scope, from, left),
-        forms::EXPRESSION_AGGREGATE => aggregate(source, names, tokens, rows, scope, from, left),
-        forms::EXPRESSION_CAST => cast(source, names, tokens, rows, scope, from, left),
-        _ => match_expression(source, names, tokens, rows, scope, from, left),
+        forms::EXPRESSION_BLOCK => block(source, prepared, tokens, rows, scope, from, left),
+        forms::EXPRESSION_CALL => call(source, prepared, tokens, rows, scope, from, left),
+        forms::EXPRESSION_SLICE => slice(source, prepared, tokens, rows, scope, from, left),
+        forms::EXPRESSION_AGGREGATE => aggregate(source, prepared, tokens, rows, scope, from, left),
+        forms::EXPRESSION_CAST => cast(source, prepared, tokens, rows, scope, from, left),
+        _ => match_expression(source, prepared, tokens, rows, scope, from, left),
     }
 }
 
@@ -97,7 +107,7 @@ fn operation_row(form: u8) -> u32
 // A mark and so many expressions.
 fn operation(
     source: &[u8],
-    names: &[u8],
+    prepared: &[u8],
     tokens: &[u32],
     rows: &mut [u32],
     scope: Scope,
@@ -112,13 +122,13 @@ fn operation(
     requires { ⌜ 0 < count ⌝ }
     requires { ⌜ count ≡ operandCount (kindAlternative anExpression (nextKind (now tokens) from)) ⌝ }
     requires { ⌜ kind ≡ operationRow (kindAlternative anExpression (nextKind (now tokens) from)) ⌝ }
-    ensures { λ r. ⌜ ReadsIn (now (source .entry)) (now (names .entry)) (now (tokens .entry)) scope left 1 anExpression
+    ensures { λ r. ⌜ ReadsIn (now (source .entry)) (now (prepared .entry)) (now (tokens .entry)) scope left 1 anExpression
         from (now (rows .entry)) r (now (rows .exit)) ⌝ }
 {
     let mut step = steps::open_row(from);
     let mut done = 0;
     while done < count {
-        step = expression(source, names, tokens, rows, scope, step, left - 1);
+        step = expression(source, prepared, tokens, rows, scope, step, left - 1);
         done += 1;
     }
     steps::close_row(rows, from, step, kind)
@@ -127,7 +137,7 @@ fn operation(
 // A try or a closure, by rule 7.
 fn try_or_closure(
     source: &[u8],
-    names: &[u8],
+    prepared: &[u8],
     tokens: &[u32],
     rows: &mut [u32],
     scope: Scope,
@@ -138,7 +148,7 @@ fn try_or_closure(
     requires { ⌜ Within (now tokens) 1 from ⌝ }
     requires { ⌜ 0 < left ⌝ }
     requires { ⌜ kindAlternative anExpression (nextKind (now tokens) from) ≡ 7 ⌝ }
-    ensures { λ r. ⌜ ReadsIn (now (source .entry)) (now (names .entry)) (now (tokens .entry)) scope left 1 anExpression
+    ensures { λ r. ⌜ ReadsIn (now (source .entry)) (now (prepared .entry)) (now (tokens .entry)) scope left 1 anExpression
         from (now (rows .entry)) r (now (rows .exit)) ⌝ }
 {
     let opened = steps::open_row(from);
@@ -146,10 +156,10 @@ fn try_or_closure(
         let listed = types::parameters(tokens, rows, opened, left - 1);
         let marked = steps::take(tokens, listed, kinds::ARROW);
         let typed = types::read_type(tokens, rows, marked, left - 1);
-        let ended = block(source, names, tokens, rows, scope, typed, left - 1);
+        let ended = block(source, prepared, tokens, rows, scope, typed, left - 1);
         return steps::close_row(rows, from, ended, row_kinds::CLOSURE);
     }
-    let tried = expression(source, names, tokens, rows, scope, opened, left - 1);
+    let tried = expression(source, prepared, tokens, rows, scope, opened, left - 1);
     steps::close_row(rows, from, tried, row_kinds::TRY)
 }
 
@@ -169,7 +179,7 @@ fn size_of(tokens: &[u32], rows: &mut [u32], from: Step, left: usize) -> Step
 // A call: a name, type arguments where there are some, and expressions.
 fn call(
     source: &[u8],
-    names: &[u8],
+    prepared: &[u8],
     tokens: &[u32],
     rows: &mut [u32],
     scope: Scope,
@@ -180,13 +190,13 @@ fn call(
     requires { ⌜ Within (now tokens) 1 from ⌝ }
     requires { ⌜ 0 < left ⌝ }
     requires { ⌜ kindAlternative anExpression (nextKind (now tokens) from) ≡ 11 ⌝ }
-    ensures { λ r. ⌜ ReadsIn (now (source .entry)) (now (names .entry)) (now (tokens .entry)) scope left 1 anExpression
+    ensures { λ r. ⌜ ReadsIn (now (source .entry)) (now (prepared .entry)) (now (tokens .entry)) scope left 1 anExpression
         from (now (rows .entry)) r (now (rows .exit)) ⌝ }
 {
     let opened = steps::open_row(from);
     let named = steps::take(tokens, opened, kinds::IDENT);
     let listed = words::optional_list(tokens, rows, named, left - 1, true);
-    let given = expressions(source, names, tokens, rows, scope, listed, left - 1);
+    let given = expressions(source, prepared, tokens, rows, scope, listed, left - 1);
     let ended = steps::take(tokens, given, kinds::RIGHT_PAREN);
     steps::close_row(rows, from, ended, row_kinds::CALL)
 }
@@ -194,7 +204,7 @@ fn call(
 // A slice literal: a type and its elements in brackets.
 fn slice(
     source: &[u8],
-    names: &[u8],
+    prepared: &[u8],
     tokens: &[u32],
     rows: &mut [u32],
     scope: Scope,
@@ -205,13 +215,13 @@ fn slice(
     requires { ⌜ Within (now tokens) 1 from ⌝ }
     requires { ⌜ 0 < left ⌝ }
     requires { ⌜ kindAlternative anExpression (nextKind (now tokens) from) ≡ 12 ⌝ }
-    ensures { λ r. ⌜ ReadsIn (now (source .entry)) (now (names .entry)) (now (tokens .entry)) scope left 1 anExpression
+    ensures { λ r. ⌜ ReadsIn (now (source .entry)) (now (prepared .entry)) (now (tokens .entry)) scope left 1 anExpression
         from (now (rows .entry)) r (now (rows .exit)) ⌝ }
 {
     let opened = steps::open_row(from);
     let typed = types::read_type(tokens, rows, opened, left - 1);
     let marked = steps::take(tokens, typed, kinds::BAR);
-    let held = expressions(source, names, tokens, rows, scope, marked, left - 1);
+    let held = expressions(source, prepared, tokens, rows, scope, marked, left - 1);
     let ended = steps::take(tokens, held, kinds::RIGHT_BRACKET);
     steps::close_row(rows, from, ended, row_kinds::SLICE)
 }
@@ -219,7 +229,7 @@ fn slice(
 // An aggregate: a type and its elements in braces.
 fn aggregate(
     source: &[u8],
-    names: &[u8],
+    prepared: &[u8],
     tokens: &[u32],
     rows: &mut [u32],
     scope: Scope,
@@ -230,13 +240,13 @@ fn aggregate(
     requires { ⌜ Within (now tokens) 1 from ⌝ }
     requires { ⌜ 0 < left ⌝ }
     requires { ⌜ kindAlternative anExpression (nextKind (now tokens) from) ≡ 13 ⌝ }
-    ensures { λ r. ⌜ ReadsIn (now (source .entry)) (now (names .entry)) (now (tokens .entry)) scope left 1 anExpression
+    ensures { λ r. ⌜ ReadsIn (now (source .entry)) (now (prepared .entry)) (now (tokens .entry)) scope left 1 anExpression
         from (now (rows .entry)) r (now (rows .exit)) ⌝ }
 {
     let opened = steps::open_row(from);
     let typed = types::read_type(tokens, rows, opened, left - 1);
     let marked = steps::take(tokens, typed, kinds::LEFT_BRACE);
-    let held = expressions(source, names, tokens, rows, scope, marked, left - 1);
+    let held = expressions(source, prepared, tokens, rows, scope, marked, left - 1);
     let ended = steps::take(tokens, held, kinds::RIGHT_BRACE);
     steps::close_row(rows, from, ended, row_kinds::AGGREGATE)
 }
@@ -273,7 +283,7 @@ fn selector(source: &[u8], tokens: &[u32], rows: &mut [u32], from: Step, left: u
 // A cast, with the INT that belongs to a pointer type by rule 8.
 fn cast(
     source: &[u8],
-    names: &[u8],
+    prepared: &[u8],
     tokens: &[u32],
     rows: &mut [u32],
     scope: Scope,
@@ -284,13 +294,13 @@ fn cast(
     requires { ⌜ Within (now tokens) 1 from ⌝ }
     requires { ⌜ 0 < left ⌝ }
     requires { ⌜ kindAlternative anExpression (nextKind (now tokens) from) ≡ 15 ⌝ }
-    ensures { λ r. ⌜ ReadsIn (now (source .entry)) (now (names .entry)) (now (tokens .entry)) scope left 1 anExpression
+    ensures { λ r. ⌜ ReadsIn (now (source .entry)) (now (prepared .entry)) (now (tokens .entry)) scope left 1 anExpression
         from (now (rows .entry)) r (now (rows .exit)) ⌝ }
 {
     let opened = steps::open_row(from);
     let pointer = steps::next_is(tokens, opened, kinds::STAR);
     let typed = types::read_type(tokens, rows, opened, left - 1);
-    let valued = expression(source, names, tokens, rows, scope, typed, left - 1);
+    let valued = expression(source, prepared, tokens, rows, scope, typed, left - 1);
     if pointer {
         let selected = selector(source, tokens, rows, valued, left - 1);
         return steps::close_row(rows, from, selected, row_kinds::CAST);
@@ -301,7 +311,7 @@ fn cast(
 // A match: an expression and its arms.
 fn match_expression(
     source: &[u8],
-    names: &[u8],
+    prepared: &[u8],
     tokens: &[u32],
     rows: &mut [u32],
     scope: Scope,
@@ -312,13 +322,13 @@ fn match_expression(
     requires { ⌜ Within (now tokens) 1 from ⌝ }
     requires { ⌜ 0 < left ⌝ }
     requires { ⌜ kindAlternative anExpression (nextKind (now tokens) from) ≡ 16 ⌝ }
-    ensures { λ r. ⌜ ReadsIn (now (source .entry)) (now (names .entry)) (now (tokens .entry)) scope left 1 anExpression
+    ensures { λ r. ⌜ ReadsIn (now (source .entry)) (now (prepared .entry)) (now (tokens .entry)) scope left 1 anExpression
         from (now (rows .entry)) r (now (rows .exit)) ⌝ }
 {
     let opened = steps::open_row(from);
-    let matched = expression(source, names, tokens, rows, scope, opened, left - 1);
+    let matched = expression(source, prepared, tokens, rows, scope, opened, left - 1);
     let braced = steps::take(tokens, matched, kinds::LEFT_BRACE);
-    let listed = arms(source, names, tokens, rows, scope, braced, left - 1);
+    let listed = arms(source, prepared, tokens, rows, scope, braced, left - 1);
     let ended = steps::take(tokens, listed, kinds::RIGHT_BRACE);
     steps::close_row(rows, from, ended, row_kinds::MATCH)
 }
@@ -337,7 +347,7 @@ fn begins_arm(tokens: &[u32], step: Step) -> bool
 // As many arms as there are.
 fn arms(
     source: &[u8],
-    names: &[u8],
+    prepared: &[u8],
     tokens: &[u32],
     rows: &mut [u32],
     scope: Scope,
@@ -346,12 +356,12 @@ fn arms(
 ) -> Step
     requires { ⌜ Tokens (now tokens) ⌝ }
     requires { ⌜ Within (now tokens) 0 from ⌝ }
-    ensures { λ r. ⌜ ReadsIn (now (source .entry)) (now (names .entry)) (now (tokens .entry)) scope left 0 armList
+    ensures { λ r. ⌜ ReadsIn (now (source .entry)) (now (prepared .entry)) (now (tokens .entry)) scope left 0 armList
         from (now (rows .entry)) r (now (rows .exit)) ⌝ }
 {
     let mut step = from;
     while begins_arm(tokens, step) {
-        step = arm(source, names, tokens, rows, scope, step, left);
+        step = arm(source, prepared, tokens, rows, scope, step, left);
     }
     step
 }
@@ -359,7 +369,7 @@ fn arms(
 // An arm: its head, its payloads and its expression.
 fn arm(
     source: &[u8],
-    names: &[u8],
+    prepared: &[u8],
     tokens: &[u32],
     rows: &mut [u32],
     scope: Scope,
@@ -369,7 +379,7 @@ fn arm(
     requires { ⌜ Tokens (now tokens) ⌝ }
     requires { ⌜ Within (now tokens) 1 from ⌝ }
     requires { ⌜ among (ident ∷ boolean ∷ []) (nextKind (now tokens) from) ≡ true ⌝ }
-    ensures { λ r. ⌜ ReadsIn (now (source .entry)) (now (names .entry)) (now (tokens .entry)) scope left 1 anArm
+    ensures { λ r. ⌜ ReadsIn (now (source .entry)) (now (prepared .entry)) (now (tokens .entry)) scope left 1 anArm
         from (now (rows .entry)) r (now (rows .exit)) ⌝ }
 {
     if left == 0 {
@@ -378,7 +388,7 @@ fn arm(
     let opened = steps::open_row(from);
     let bound = payloads(tokens, rows, opened, left - 1);
     let marked = steps::take(tokens, bound, kinds::ARROW);
-    let valued = expression(source, names, tokens, rows, scope, marked, left - 1);
+    let valued = expression(source, prepared, tokens, rows, scope, marked, left - 1);
     steps::close_row(rows, from, valued, row_kinds::ARM)
 }
 
@@ -429,7 +439,7 @@ fn payloads(tokens: &[u32], rows: &mut [u32], from: Step, left: usize) -> Step
 
 // Whether the next token begins an expression.
 fn begins_expression(tokens: &[u32], step: Step) -> bool
-    ensures { λ r. ⌜ r ≡ begins anExpression (now (tokens .entry)) step ⌝ }
+    ensures { λ r. ⌜ r ≡ beginsPart anExpression (now (tokens .entry)) step ⌝ }
 {
     let kind = steps::next_kind(tokens, step);
     0 < grammar::expression_alternative(kind)
@@ -438,7 +448,7 @@ fn begins_expression(tokens: &[u32], step: Step) -> bool
 // As many expressions as there are.
 fn expressions(
     source: &[u8],
-    names: &[u8],
+    prepared: &[u8],
     tokens: &[u32],
     rows: &mut [u32],
     scope: Scope,
@@ -447,12 +457,12 @@ fn expressions(
 ) -> Step
     requires { ⌜ Tokens (now tokens) ⌝ }
     requires { ⌜ Within (now tokens) 0 from ⌝ }
-    ensures { λ r. ⌜ ReadsIn (now (source .entry)) (now (names .entry)) (now (tokens .entry)) scope left 0 expressionList
+    ensures { λ r. ⌜ ReadsIn (now (source .entry)) (now (prepared .entry)) (now (tokens .entry)) scope left 0 expressionList
         from (now (rows .entry)) r (now (rows .exit)) ⌝ }
 {
     let mut step = from;
     while begins_expression(tokens, step) {
-        step = expression(source, names, tokens, rows, scope, step, left);
+        step = expression(source, prepared, tokens, rows, scope, step, left);
     }
     step
 }
@@ -460,7 +470,7 @@ fn expressions(
 // A block.
 pub(crate) fn block(
     source: &[u8],
-    names: &[u8],
+    prepared: &[u8],
     tokens: &[u32],
     rows: &mut [u32],
     scope: Scope,
@@ -469,7 +479,7 @@ pub(crate) fn block(
 ) -> Step
     requires { ⌜ Tokens (now tokens) ⌝ }
     requires { ⌜ Within (now tokens) 1 from ⌝ }
-    ensures { λ r. ⌜ ReadsIn (now (source .entry)) (now (names .entry)) (now (tokens .entry)) scope left 1 aBlock
+    ensures { λ r. ⌜ ReadsIn (now (source .entry)) (now (prepared .entry)) (now (tokens .entry)) scope left 1 aBlock
         from (now (rows .entry)) r (now (rows .exit)) ⌝ }
 {
     if !steps::next_is(tokens, from, kinds::LEFT_BRACE) {
@@ -479,14 +489,14 @@ pub(crate) fn block(
         return steps::refuse(from, steps::TOO_DEEP);
     }
     let opened = steps::open_row(from);
-    let listed = statements(source, names, tokens, rows, scope, opened, left - 1);
+    let listed = statements(source, prepared, tokens, rows, scope, opened, left - 1);
     let ended = steps::take(tokens, listed, kinds::RIGHT_BRACE);
     steps::close_row(rows, from, ended, row_kinds::BLOCK)
 }
 
 // Whether the next token begins a statement.
 fn begins_statement(tokens: &[u32], step: Step) -> bool
-    ensures { λ r. ⌜ r ≡ begins aStatement (now (tokens .entry)) step ⌝ }
+    ensures { λ r. ⌜ r ≡ beginsPart aStatement (now (tokens .entry)) step ⌝ }
 {
     let kind = steps::next_kind(tokens, step);
     0 < grammar::statement_alternative(kind)
@@ -495,7 +505,7 @@ fn begins_statement(tokens: &[u32], step: Step) -> bool
 // As many statements as there are.
 fn statements(
     source: &[u8],
-    names: &[u8],
+    prepared: &[u8],
     tokens: &[u32],
     rows: &mut [u32],
     scope: Scope,
@@ -504,12 +514,12 @@ fn statements(
 ) -> Step
     requires { ⌜ Tokens (now tokens) ⌝ }
     requires { ⌜ Within (now tokens) 0 from ⌝ }
-    ensures { λ r. ⌜ ReadsIn (now (source .entry)) (now (names .entry)) (now (tokens .entry)) scope left 0 statementList
+    ensures { λ r. ⌜ ReadsIn (now (source .entry)) (now (prepared .entry)) (now (tokens .entry)) scope left 0 statementList
         from (now (rows .entry)) r (now (rows .exit)) ⌝ }
 {
     let mut step = from;
     while begins_statement(tokens, step) {
-        step = statement(source, names, tokens, rows, scope, step, left);
+        step = statement(source, prepared, tokens, rows, scope, step, left);
     }
     step
 }
@@ -517,7 +527,7 @@ fn statements(
 // A statement.
 fn statement(
     source: &[u8],
-    names: &[u8],
+    prepared: &[u8],
     tokens: &[u32],
     rows: &mut [u32],
     scope: Scope,
@@ -526,7 +536,7 @@ fn statement(
 ) -> Step
     requires { ⌜ Tokens (now tokens) ⌝ }
     requires { ⌜ Within (now tokens) 1 from ⌝ }
-    ensures { λ r. ⌜ ReadsIn (now (source .entry)) (now (names .entry)) (now (tokens .entry)) scope left 1 aStatement
+    ensures { λ r. ⌜ ReadsIn (now (source .entry)) (now (prepared .entry)) (now (tokens .entry)) scope left 1 aStatement
         from (now (rows .entry)) r (now (rows .exit)) ⌝ }
 {
     let kind = steps::next_kind(tokens, from);
@@ -535,23 +545,31 @@ fn statement(
         return steps::refuse(from, steps::NO_PROGRAM);
     }
     if form == forms::STATEMENT_EXPRESSION {
-        return expression(source, names, tokens, rows, scope, from, left);
+        return expression(source, prepared, tokens, rows, scope, from, left);
     }
     if left == 0 {
         return steps::refuse(from, steps::TOO_DEEP);
     }
     match form {
-        forms::STATEMENT_LET => let_statement(source, names, tokens, rows, scope, from, left),
-        forms::STATEMENT_ASSIGNMENT => assignment(source, names, tokens, rows, scope, from, left),
-        forms::STATEMENT_DEFER => defer(source, names, tokens, rows, scope, from, left),
-        _ => tilde_statement(source, names, tokens, rows, scope, from, left),
+        forms::STATEMENT_LET => let_statement(source, prepared, tokens, rows, scope, from, left),
+        forms::STATEMENT_ASSIGNMENT => assignment(
+            source,
+            prepared,
+            tokens,
+            rows,
+            scope,
+            from,
+            left,
+        ),
+        forms::STATEMENT_DEFER => defer(source, prepared, tokens, rows, scope, from, left),
+        _ => tilde_statement(source, prepared, tokens, rows, scope, from, left),
     }
 }
 
 // A let; by rule 3 its leading IDENT is its type if that is a type name, and else its name.
 fn let_statement(
     source: &[u8],
-    names: &[u8],
+    prepared: &[u8],
     tokens: &[u32],
     rows: &mut [u32],
     scope: Scope,
@@ -562,26 +580,26 @@ fn let_statement(
     requires { ⌜ Within (now tokens) 1 from ⌝ }
     requires { ⌜ 0 < left ⌝ }
     requires { ⌜ kindAlternative aStatement (nextKind (now tokens) from) ≡ 2 ⌝ }
-    ensures { λ r. ⌜ ReadsIn (now (source .entry)) (now (names .entry)) (now (tokens .entry)) scope left 1 aStatement
+    ensures { λ r. ⌜ ReadsIn (now (source .entry)) (now (prepared .entry)) (now (tokens .entry)) scope left 1 aStatement
         from (now (rows .entry)) r (now (rows .exit)) ⌝ }
 {
     let opened = steps::open_row(from);
     let mutable = steps::take_if(tokens, opened, kinds::TILDE);
-    if questions::plain_name(source, names, tokens, scope, mutable) {
+    if questions::plain_name(source, prepared, tokens, scope, mutable) {
         let named = steps::take(tokens, mutable, kinds::IDENT);
-        let valued = expression(source, names, tokens, rows, scope, named, left - 1);
+        let valued = expression(source, prepared, tokens, rows, scope, named, left - 1);
         return steps::close_row(rows, from, valued, row_kinds::LET);
     }
     let typed = types::read_type(tokens, rows, mutable, left - 1);
     let named = steps::take(tokens, typed, kinds::IDENT);
-    let valued = expression(source, names, tokens, rows, scope, named, left - 1);
+    let valued = expression(source, prepared, tokens, rows, scope, named, left - 1);
     steps::close_row(rows, from, valued, row_kinds::LET)
 }
 
 // A set of a name or of an element.
 fn assignment(
     source: &[u8],
-    names: &[u8],
+    prepared: &[u8],
     tokens: &[u32],
     rows: &mut [u32],
     scope: Scope,
@@ -592,26 +610,26 @@ fn assignment(
     requires { ⌜ Within (now tokens) 1 from ⌝ }
     requires { ⌜ 0 < left ⌝ }
     requires { ⌜ kindAlternative aStatement (nextKind (now tokens) from) ≡ 3 ⌝ }
-    ensures { λ r. ⌜ ReadsIn (now (source .entry)) (now (names .entry)) (now (tokens .entry)) scope left 1 aStatement
+    ensures { λ r. ⌜ ReadsIn (now (source .entry)) (now (prepared .entry)) (now (tokens .entry)) scope left 1 aStatement
         from (now (rows .entry)) r (now (rows .exit)) ⌝ }
 {
     let opened = steps::open_row(from);
     if steps::next_is(tokens, opened, kinds::DOT) {
         let marked = steps::take(tokens, opened, kinds::DOT);
-        let whole = expression(source, names, tokens, rows, scope, marked, left - 1);
-        let index = expression(source, names, tokens, rows, scope, whole, left - 1);
-        let valued = expression(source, names, tokens, rows, scope, index, left - 1);
+        let whole = expression(source, prepared, tokens, rows, scope, marked, left - 1);
+        let index = expression(source, prepared, tokens, rows, scope, whole, left - 1);
+        let valued = expression(source, prepared, tokens, rows, scope, index, left - 1);
         return steps::close_row(rows, from, valued, row_kinds::SET_ELEMENT);
     }
     let named = steps::take(tokens, opened, kinds::IDENT);
-    let valued = expression(source, names, tokens, rows, scope, named, left - 1);
+    let valued = expression(source, prepared, tokens, rows, scope, named, left - 1);
     steps::close_row(rows, from, valued, row_kinds::SET_NAME)
 }
 
 // A defer.
 fn defer(
     source: &[u8],
-    names: &[u8],
+    prepared: &[u8],
     tokens: &[u32],
     rows: &mut [u32],
     scope: Scope,
@@ -622,18 +640,18 @@ fn defer(
     requires { ⌜ Within (now tokens) 1 from ⌝ }
     requires { ⌜ 0 < left ⌝ }
     requires { ⌜ kindAlternative aStatement (nextKind (now tokens) from) ≡ 4 ⌝ }
-    ensures { λ r. ⌜ ReadsIn (now (source .entry)) (now (names .entry)) (now (tokens .entry)) scope left 1 aStatement
+    ensures { λ r. ⌜ ReadsIn (now (source .entry)) (now (prepared .entry)) (now (tokens .entry)) scope left 1 aStatement
         from (now (rows .entry)) r (now (rows .exit)) ⌝ }
 {
     let opened = steps::open_row(from);
-    let ended = block(source, names, tokens, rows, scope, opened, left - 1);
+    let ended = block(source, prepared, tokens, rows, scope, opened, left - 1);
     steps::close_row(rows, from, ended, row_kinds::DEFER)
 }
 
 // A foreach, a loop or a complement, by rule 6.
 fn tilde_statement(
     source: &[u8],
-    names: &[u8],
+    prepared: &[u8],
     tokens: &[u32],
     rows: &mut [u32],
     scope: Scope,
@@ -644,19 +662,19 @@ fn tilde_statement(
     requires { ⌜ Within (now tokens) 1 from ⌝ }
     requires { ⌜ 0 < left ⌝ }
     requires { ⌜ kindAlternative aStatement (nextKind (now tokens) from) ≡ 5 ⌝ }
-    ensures { λ r. ⌜ ReadsIn (now (source .entry)) (now (names .entry)) (now (tokens .entry)) scope left 1 aStatement
+    ensures { λ r. ⌜ ReadsIn (now (source .entry)) (now (prepared .entry)) (now (tokens .entry)) scope left 1 aStatement
         from (now (rows .entry)) r (now (rows .exit)) ⌝ }
 {
     let opened = steps::open_row(from);
     if questions::two_names(tokens, opened) {
         let named = steps::take(tokens, opened, kinds::IDENT);
-        let listed = expression(source, names, tokens, rows, scope, named, left - 1);
-        let ended = block(source, names, tokens, rows, scope, listed, left - 1);
+        let listed = expression(source, prepared, tokens, rows, scope, named, left - 1);
+        let ended = block(source, prepared, tokens, rows, scope, listed, left - 1);
         return steps::close_row(rows, from, ended, row_kinds::FOREACH);
     }
-    let tested = expression(source, names, tokens, rows, scope, opened, left - 1);
+    let tested = expression(source, prepared, tokens, rows, scope, opened, left - 1);
     if steps::next_is(tokens, tested, kinds::LEFT_BRACE) {
-        let ended = block(source, names, tokens, rows, scope, tested, left - 1);
+        let ended = block(source, prepared, tokens, rows, scope, tested, left - 1);
         return steps::close_row(rows, from, ended, row_kinds::WHILE);
     }
     steps::close_row(rows, from, tested, row_kinds::COMPLEMENT)

@@ -3,9 +3,7 @@
 mod declarations;
 mod expressions;
 mod questions;
-pub mod row_kinds;
 mod steps;
-pub mod tree;
 mod types;
 mod words;
 

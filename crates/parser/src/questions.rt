@@ -7,9 +7,9 @@ ghost use mathlib.Core.List.{[], _∷_};
 ghost use Rattle.lexer.specs.internal.Kinds.{ident, arrow};
 ghost use Rattle.grammar.specs.Grammars.{query};
 ghost use Rattle.grammar.specs.Nurl.{plainName};
-ghost use Rattle.grammar.specs.internal.Nurl.{opensStruct, twoNames, opensClosure, zeroOrOne};
-ghost use Rattle.parser.specs.Steps.{kindsAt, askedAt, AnswersTexts, AnswersKinds};
-ghost use Rattle.parser.specs.Readings.{namesIn};
+ghost use Rattle.grammar.specs.internal.Productions.{opensStruct, twoNames, opensClosure, zeroOrOne};
+ghost use Rattle.parser.specs.internal.Steps.{kindsAt, askedAt, AnswersTexts, AnswersKinds};
+ghost use Rattle.parser.specs.internal.Readings.{namesIn};
 
 // Rule 6: whether two IDENTs come next.
 pub(crate) fn two_names(tokens: &[u32], step: Step) -> bool
@@ -86,7 +86,7 @@ pub(crate) fn zero_or_one(source: &[u8], tokens: &[u32], step: Step) -> bool
     match step {
         Step::Read(at, _) => {
             if lexer::kind_at(tokens, at) == kinds::INT {
-                let text = typenames::text_at(source, tokens, at);
+                let text = lexer::text_at(source, tokens, at);
                 if text.len() == 1 {
                     if text[0] == b'0' {
                         return true;
@@ -103,18 +103,18 @@ pub(crate) fn zero_or_one(source: &[u8], tokens: &[u32], step: Step) -> bool
 // Rules 3 and 4: whether an IDENT comes next that is not a type name.
 pub(crate) fn plain_name(
     source: &[u8],
-    names: &[u8],
+    prepared: &[u8],
     tokens: &[u32],
     scope: Scope,
     step: Step,
 ) -> bool
     ensures { λ r. ⌜ r ≡ askedAt plainName (now (source .entry)) (now (tokens .entry))
-        (namesIn (now (source .entry)) (now (names .entry)) (now (tokens .entry)) scope) step ⌝ }
+        (namesIn (now (source .entry)) (now (prepared .entry)) (now (tokens .entry)) scope) step ⌝ }
 {
     match step {
         Step::Read(at, _) => {
             if lexer::kind_at(tokens, at) == kinds::IDENT {
-                return !typenames::is_type_name(source, names, tokens, scope, at);
+                return !typenames::is_type_name(source, prepared, tokens, scope, at);
             }
             false
         }

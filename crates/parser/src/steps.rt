@@ -1,9 +1,8 @@
 // The small steps that the readers are made of: each goes on from where a reading has come to, or passes a refusal on.
 use crate::Step;
-use crate::tree;
 ghost use mathlib.Core.Path.{_≡_};
 ghost use lib.Dec.{eqb};
-ghost use Rattle.parser.specs.Steps.{Small, Spans, nextKind, refusedAt, taken, takenIf, opened, reserved, closed};
+ghost use Rattle.parser.specs.internal.Steps.{Small, Spans, nextKind, refusedAt, takenKind, takenIf, opened, rowLeft, closed};
 
 // The refusals of document 01 that a reading can meet: a token that cannot be taken, and a row that would be too deep.
 pub(crate) const NO_PROGRAM: u32 = 6;
@@ -43,7 +42,7 @@ pub(crate) fn refuse(step: Step, number: u32) -> Step
 // Takes a token of this kind.
 pub(crate) fn take(tokens: &[u32], step: Step, kind: u32) -> Step
     requires { ⌜ Small step ⌝ }
-    ensures { λ r. ⌜ r ≡ taken (now (tokens .entry)) kind step ⌝ }
+    ensures { λ r. ⌜ r ≡ takenKind (now (tokens .entry)) kind step ⌝ }
 {
     match step {
         Step::Read(at, row) => {
@@ -70,7 +69,7 @@ pub(crate) fn open_row(step: Step) -> Step
 // Leaves the next row for what begins at the next token.
 pub(crate) fn reserve_row(step: Step) -> Step
     requires { ⌜ Small step ⌝ }
-    ensures { λ r. ⌜ r ≡ reserved step ⌝ }
+    ensures { λ r. ⌜ r ≡ rowLeft step ⌝ }
 {
     match step {
         Step::Read(at, row) => Step::Read(at, row + 1),

@@ -1,23 +1,23 @@
 // The readers of types, and of the parameters and fields that are declared by one.
 use crate::Step;
-use crate::row_kinds;
 use crate::steps;
 use crate::words;
 use grammar::forms;
 use lexer::kinds;
+use tree::row_kinds;
 ghost use mathlib.Core.Path.{_≡_};
 ghost use mathlib.Core.Bool.{true};
 ghost use Prim.Native.Nat.{_<_};
 ghost use Rattle.grammar.specs.internal.Nonterminals.{types as typeList, type, parameters as parameterList, parameter as aParameter};
 ghost use Rattle.grammar.specs.internal.Nonterminals.{fields as fieldList, field as aField};
-ghost use Rattle.grammar.specs.Alternatives.{kindAlternative};
-ghost use Rattle.parser.specs.Steps.{Tokens, Within, nextKind, begins};
-ghost use Rattle.parser.specs.Readings.{ReadsKinds};
-ghost use Rattle.parser.specs.Forms.{TypeOperator};
+ghost use Rattle.grammar.specs.internal.Alternatives.{kindAlternative};
+ghost use Rattle.parser.specs.internal.Steps.{Tokens, Within, nextKind, beginsPart};
+ghost use Rattle.parser.specs.internal.Readings.{ReadsKinds};
+ghost use Rattle.parser.specs.internal.Operators.{TypeOperator};
 
 // Whether the next token begins a type.
 pub(crate) fn begins_type(tokens: &[u32], step: Step) -> bool
-    ensures { λ r. ⌜ r ≡ begins type (now (tokens .entry)) step ⌝ }
+    ensures { λ r. ⌜ r ≡ beginsPart type (now (tokens .entry)) step ⌝ }
 {
     let kind = steps::next_kind(tokens, step);
     0 < grammar::type_alternative(kind)
@@ -112,7 +112,7 @@ fn types(tokens: &[u32], rows: &mut [u32], from: Step, left: usize) -> Step
 fn parameter(tokens: &[u32], rows: &mut [u32], from: Step, left: usize) -> Step
     requires { ⌜ Tokens (now tokens) ⌝ }
     requires { ⌜ Within (now tokens) 0 from ⌝ }
-    requires { ⌜ begins type (now tokens) from ≡ true ⌝ }
+    requires { ⌜ beginsPart type (now tokens) from ≡ true ⌝ }
     ensures { λ r. ⌜ ReadsKinds (now (tokens .entry)) left 1 aParameter from (now (rows .entry)) r (now (rows .exit)) ⌝ }
 {
     if left == 0 {
@@ -141,7 +141,7 @@ pub(crate) fn parameters(tokens: &[u32], rows: &mut [u32], from: Step, left: usi
 fn field(tokens: &[u32], rows: &mut [u32], from: Step, left: usize) -> Step
     requires { ⌜ Tokens (now tokens) ⌝ }
     requires { ⌜ Within (now tokens) 0 from ⌝ }
-    requires { ⌜ begins type (now tokens) from ≡ true ⌝ }
+    requires { ⌜ beginsPart type (now tokens) from ≡ true ⌝ }
     ensures { λ r. ⌜ ReadsKinds (now (tokens .entry)) left 1 aField from (now (rows .entry)) r (now (rows .exit)) ⌝ }
 {
     if left == 0 {

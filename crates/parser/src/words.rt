@@ -1,16 +1,16 @@
 // Words: what bracketed lists and instances of generic types hold.
 use crate::Step;
-use crate::row_kinds;
 use crate::steps;
 use lexer::kinds;
+use tree::row_kinds;
 ghost use mathlib.Core.Path.{_≡_};
 ghost use mathlib.Core.Bool.{true};
 ghost use Rattle.lexer.specs.Tests.{pick, among};
 ghost use Rattle.grammar.specs.Grammars.{query};
 ghost use Rattle.grammar.specs.internal.Nonterminals.{moreNames, moreWords, nameList, wordList, typeParameters, typeArguments};
-ghost use Rattle.grammar.specs.internal.Nurl.{opensNames, opensWords};
-ghost use Rattle.parser.specs.Steps.{Tokens, Within, Small, AnswersKinds, wordKinds, WordsEnd, takenWord};
-ghost use Rattle.parser.specs.Readings.{ReadsKinds, ReadsNoRows};
+ghost use Rattle.grammar.specs.internal.Productions.{opensNames, opensWords};
+ghost use Rattle.parser.specs.internal.Steps.{Tokens, Within, Small, AnswersKinds, wordKinds, WordsEnd, takenWord};
+ghost use Rattle.parser.specs.internal.Readings.{ReadsKinds, ReadsNoRows};
 
 // Whether a token of a kind is a word; a keyword is one where that is allowed.
 fn is_word(kind: u32, keywords: bool) -> bool

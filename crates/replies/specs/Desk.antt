@@ -6,9 +6,9 @@ use lib.Dec.{ltb}
 use lib.ListN.{length, replicate}
 use Rattle.lexer.specs.Tests.{pick}
 use Rattle.lexer.specs.Table.{tokenWidth}
-use Rattle.grammar.specs.TreeTable.{treeWidth}
-use Rattle.grammar.specs.Answers.{Result, answer17}
-use Rattle.grammar.specs.declared.Answer.the-variants.{Refused}
+use Rattle.tree.specs.TreeTable.{treeWidth}
+use Rattle.answer.specs.Answers.{Result, answer17}
+use Rattle.answer.specs.declared.Answer.the-variants.{Refused}
 use Rattle.nurl.specs.Texts.{answerText}
 
 abbrev pub scriptLimit : ℕ

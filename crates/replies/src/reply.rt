@@ -1,5 +1,5 @@
 // The text that the desk program prints for a script. Both tables are made here, so that their sizes are part of what is proved.
-use grammar::Answer;
+use answer::Answer;
 ghost use mathlib.Core.Path.{_≡_};
 ghost use lib.ListN.{length};
 ghost use Rattle.nurl.specs.Texts.{overwritten};

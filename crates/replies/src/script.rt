@@ -5,7 +5,7 @@ use crate::Progress;
 ghost use mathlib.Core.Path.{_≡_};
 ghost use Prim.Native.Nat.{ℕ, _+_, _^_, _<_};
 ghost use lib.ListN.{length};
-ghost use Rattle.replies.specs.Input.{outcomeOf, afterCall, GotWithin, ScriptWithin};
+ghost use Rattle.replies.specs.internal.Input.{outcomeOf, afterCall, GotWithin, ScriptWithin};
 ghost use Rattle.replies.specs.declared.Outcome.the-variants.{Got};
 
 // How often a call that a signal interrupts is tried again for one script. A loop that is proved has to end.

@@ -1,6 +1,4 @@
 -- The list of extra type names, and the type names of a source.
 pub mod NameList
 pub mod TypeNames
-pub mod Pairs
-pub mod Declarations
-pub mod Prepared
+pub mod internal

@@ -49,15 +49,6 @@ unfoldable pub firstBad : Edition → ℕ → List (List ℕ) → Checked
 firstBad e at [] = Good
 firstBad e at (w ∷ ws) = let later = firstBad e (at + length w + 1) ws in pick (isName e w) later (Refused 2 at)
 
--- document 01's number and values for each case of the answer, as two numbers: 0 and 0, or the refusal's number and its place
-unfoldable pub checkedValues : Checked → List ℕ
-checkedValues Good = 0 ∷ 0 ∷ []
-checkedValues (Refused number place) = number ∷ place ∷ []
-
 -- the answer for a list
 unfoldable pub checked : Edition → List ℕ → Checked
 checked e list = pick (ltb nameLimit (length list)) (Refused 2 0) (firstBad e 0 (entries list))
-
--- its numbers
-abbrev pub listValues : Edition → List ℕ → List ℕ
-listValues e list = checkedValues (checked e list)

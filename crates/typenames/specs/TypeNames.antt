@@ -1,37 +1,12 @@
 -- The type names of a source: the set N of document 01.
-use Prim.Native.Nat.{ℕ, zero, suc, _+_, _-_}
+use Prim.Native.Nat.{ℕ, zero, suc, _-_}
 use mathlib.Core.Bool.{Bool, false}
 use mathlib.Core.List.{List, [], _∷_, _++_}
 use lib.Dec.{eqb}
-use lib.ListN.{take, drop}
 use Rattle.lexer.specs.Tests.{and, or, pick, among}
 use Rattle.lexer.specs.Kinds.{tokenKind}
 use Rattle.lexer.specs.Words.{sameName}
-use Rattle.lexer.specs.Tokens.{Token}
-use Rattle.lexer.specs.Table.{rowAt}
-use Rattle.typenames.specs.declared.Scope.{Scope}
-use Rattle.typenames.specs.declared.Scope.the-variants.{Program}
-
--- a token by what the grammar asks of it: its kind and its bytes
-pub record Item : Type 0 where
-  pub kind : ℕ
-  pub text : List ℕ
-
-unfoldable pub itemOf : List ℕ → Token → Item
-itemOf source t = record { kind = t .kind; text = take (t .size) (drop (t .start) source) }
-
--- the token in a row of a table, with its text
-abbrev pub itemAt : List ℕ → List ℕ → ℕ → Item
-itemAt source table row = itemOf source (rowAt table row)
-
--- what is said of three tokens, of those in three rows of a table that follow each other
-abbrev pub threeFrom : (Item → Item → Item → List (List ℕ)) → List ℕ → List ℕ → ℕ → List (List ℕ)
-threeFrom said source table row = said (itemAt source table row) (itemAt source table (row + 1)) (itemAt source table (row + 2))
-
--- the tokens of a source with their texts
-unfoldable pub items : List ℕ → List Token → List Item
-items source [] = []
-items source (t ∷ ts) = itemOf source t ∷ items source ts
+use Rattle.lexer.specs.Items.{Item}
 
 -- whether a name is one of some names
 unfoldable pub isNamed : List (List ℕ) → List ℕ → Bool
@@ -74,7 +49,3 @@ opening17 = tokenKind "{" ∷ tokenKind "[" ∷ []
 -- The set N (document 01, "Type names of a source"): "the extra names" and the names declared in the whole token list.
 unfoldable pub typeNames : List ℕ → List (List ℕ) → List Item → List (List ℕ)
 typeNames opening extra ts = extra ++ declared opening zero ts
-
--- the names in force in a scope, given those of the source and its list: in grammar 1.7 all of them, everywhere
-abbrev pub inForce : Scope → List (List ℕ) → List (List ℕ)
-inForce Program names = names

@@ -5,7 +5,6 @@ mod filter;
 mod list;
 mod names;
 mod prepared;
-mod text;
 
 pub use compare::same_name;
 pub use filter::SLOTS;
@@ -13,7 +12,6 @@ pub use list::NAME_LIMIT;
 pub use list::check_names;
 pub use names::is_type_name;
 pub use prepared::prepare;
-pub use text::text_at;
 
 // Whether a list of names is good, or the refusal's number and place.
 pub enum Checked {

@@ -11,20 +11,22 @@ use borrow.Author.Tests.{eqb-true, ne-eqb, lt-leb}
 use Rattle.lexer.specs.Tests.{and, pick, among}
 use Rattle.lexer.specs.internal.Kinds.{ident, lastKind}
 use Rattle.lexer.proofs.Laws.Tests.{and-left, and-right}
-use Rattle.typenames.specs.TypeNames.{Item, isNamed}
-use Rattle.grammar.specs.Grammars.{next, query, Symbol, token, part, condition, Production, Names, View, agrees, asked, met}
+use Rattle.lexer.specs.Items.{Item}
+use Rattle.typenames.specs.TypeNames.{isNamed}
+use Rattle.grammar.specs.Grammars.{next, query, Symbol, token, derived, condition, Production, Names, View, agrees, asked, met}
 use Rattle.grammar.specs.First.{canBegin, canSkip}
-use Rattle.grammar.specs.Reading.{ready, Choice, none, one, find, orElse, choice}
+use Rattle.grammar.specs.Reading.{ready, Choice, none, selected, find, otherwise, choice}
 use Rattle.grammar.specs.Classes.{typeName}
 use Rattle.grammar.specs.Languages.{classOf}
-use Rattle.grammar.specs.Alternatives.{shown, numberOf, numberElse, alternative, nth, kindOf, kindAlternative}
+use Rattle.grammar.specs.internal.Alternatives.{shown, alternativeNumber, numberElse, alternative, nth, kindOfClass}
+use Rattle.grammar.specs.internal.Alternatives.{kindAlternative}
 use Rattle.grammar.proofs.Laws.Checks.{implies, every}
 
 -- the conditions at the front ask only questions that pass a test
 unfoldable pub asksSome : (ℕ → Bool) → List Symbol → Bool
 asksSome some [] = true
 asksSome some (token cs ∷ ss) = true
-asksSome some (part x ∷ ss) = true
+asksSome some (derived x ∷ ss) = true
 asksSome some (condition b (next cs) ∷ ss) = asksSome some ss
 asksSome some (condition b (query q) ∷ ss) = and (some q) (asksSome some ss)
 
@@ -43,7 +45,7 @@ asksNone x g = asksWithin (λ (r : ℕ). false) x g
 -- a choice and its number among the productions of x, where the first of these has number k + 1
 data Numbered (x k : ℕ) (g : List Production) : Choice → ℕ → Type 0 where
   absent : Numbered x k g none 0
-  present : (n : ℕ) {m : ℕ} {p : Production} → m ≡ suc (k + n) → nth x (suc n) g ≡ one p → Numbered x k g (one p) m
+  present : (n : ℕ) {m : ℕ} {p : Production} → m ≡ suc (k + n) → nth x (suc n) g ≡ selected p → Numbered x k g (selected p) m
 
 -- before them stands a production of something else ..
 numbered-rest : {x k m : ℕ} {ps : List Production} {c : Choice} (p : Production) → eqb (p .left) x ≡ false
@@ -62,8 +64,8 @@ numbered-later p s (present n {m = m} {p = q} a b) = present (suc n) {m = m} {p 
 
 -- one choice or else the other has one number or else the other
 numbered-else : {x : ℕ} {g : List Production} {a b : Choice} {m n : ℕ} → Numbered x 0 g a m → Numbered x 0 g b n
-    → orElse a b ≡ nth x (numberElse m n) g
-unfolding orElse numberElse nth
+    → otherwise a b ≡ nth x (numberElse m n) g
+unfolding otherwise numberElse nth
 numbered-else absent absent = refl
 numbered-else absent (present n s t) = rw (s, zero-add) (sym t)
 numbered-else (present n {m = m} s t) second =
@@ -79,27 +81,27 @@ module _ (v : View) (e : Names) (i : ℕ) (some : ℕ → Bool) (b : Bool) (hear
   unfolding asksSome ready met asked
   ready-shown [] h = refl
   ready-shown (token cs ∷ ss) h = refl
-  ready-shown (part x ∷ ss) h = refl
+  ready-shown (derived x ∷ ss) h = refl
   ready-shown (condition a (next cs) ∷ ss) h = ap (and (agrees a (among cs c))) (ready-shown ss h)
   ready-shown (condition a (query q) ∷ ss) h =
       rw (heard q (and-left (some q) (asksSome some ss) h), ready-shown ss (and-right (some q) (asksSome some ss) h))
 
   module _ (x : ℕ) (test : Production → Bool) where
     numbered-here : (k : ℕ) (p : Production) (ps : List Production) → eqb (p .left) x ≡ true → (fits : Bool)
-        → Numbered x (suc k) ps (find v e i x test ps) (numberOf (shown c b) [] 0 x test (suc (suc k)) ps)
-        → Numbered x k (p ∷ ps) (pick fits (one p) (find v e i x test ps))
-        (pick fits (suc k) (numberOf (shown c b) [] 0 x test (suc (suc k)) ps))
+        → Numbered x (suc k) ps (find v e i x test ps) (alternativeNumber (shown c b) [] 0 x test (suc (suc k)) ps)
+        → Numbered x k (p ∷ ps) (pick fits (selected p) (find v e i x test ps))
+        (pick fits (suc k) (alternativeNumber (shown c b) [] 0 x test (suc (suc k)) ps))
     unfolding nth
     numbered-here k p ps s true later = present 0 {m = suc k} {p = p} (omega arith) (rw s)
     numbered-here k p ps s false later = numbered-later p s later
 
     numbered-by : (k : ℕ) (p : Production) (ps : List Production) (t : Bool) → eqb (p .left) x ≡ t
         → implies t (asksSome some (p .right)) ≡ true
-        → Numbered x k ps (find v e i x test ps) (numberOf (shown c b) [] 0 x test (suc k) ps)
-        → Numbered x (suc k) ps (find v e i x test ps) (numberOf (shown c b) [] 0 x test (suc (suc k)) ps)
-        → Numbered x k (p ∷ ps) (pick (and t (and (test p) (ready v e i (p .right)))) (one p) (find v e i x test ps))
-        (pick t (pick (and (test p) (ready (shown c b) [] 0 (p .right))) (suc k) (numberOf (shown c b) [] 0 x test (suc (suc k)) ps))
-        (numberOf (shown c b) [] 0 x test (suc k) ps))
+        → Numbered x k ps (find v e i x test ps) (alternativeNumber (shown c b) [] 0 x test (suc k) ps)
+        → Numbered x (suc k) ps (find v e i x test ps) (alternativeNumber (shown c b) [] 0 x test (suc (suc k)) ps)
+        → Numbered x k (p ∷ ps) (pick (and t (and (test p) (ready v e i (p .right)))) (selected p) (find v e i x test ps))
+        (pick t (pick (and (test p) (ready (shown c b) [] 0 (p .right))) (suc k) (alternativeNumber (shown c b) [] 0 x test (suc (suc k)) ps))
+        (alternativeNumber (shown c b) [] 0 x test (suc k) ps))
     unfolding and implies
     numbered-by k p ps true s h rest later =
         rw (ready-shown (p .right) h) (numbered-here k p ps s (and (test p) (ready (shown c b) [] 0 (p .right))) later)
@@ -107,8 +109,8 @@ module _ (v : View) (e : Names) (i : ℕ) (some : ℕ → Bool) (b : Bool) (hear
 
     -- the production that is found has the number that is computed
     numbered : (k : ℕ) (g : List Production) → asksWithin some x g ≡ true
-        → Numbered x k g (find v e i x test g) (numberOf (shown c b) [] 0 x test (suc k) g)
-    unfolding find numberOf asksWithin every
+        → Numbered x k g (find v e i x test g) (alternativeNumber (shown c b) [] 0 x test (suc k) g)
+    unfolding find alternativeNumber asksWithin every
     numbered k [] h = absent
     numbered k (p ∷ ps) h =
         let more = and-right (implies (eqb (p .left) x) (asksSome some (p .right))) (asksWithin some x ps) h in
@@ -137,10 +139,10 @@ unfolding kindAlternative
 kind-past x kind h = rw (lt-leb kind lastKind h)
 
 -- a token's class tells its kind
-pub kind-of-class : (e : Names) (t : Item) → t .kind ≤ lastKind → kindOf (classOf e t) ≡ t .kind
+pub kind-of-class : (e : Names) (t : Item) → t .kind ≤ lastKind → kindOfClass (classOf e t) ≡ t .kind
 unfolding classOf
 kind-of-class e t high = cases (and (eqb (t .kind) ident) (isNamed e (t .text))) refl
   where
-    cases : (b : Bool) → and (eqb (t .kind) ident) (isNamed e (t .text)) ≡ b → kindOf (pick b typeName (t .kind)) ≡ t .kind
+    cases : (b : Bool) → and (eqb (t .kind) ident) (isNamed e (t .text)) ≡ b → kindOfClass (pick b typeName (t .kind)) ≡ t .kind
     cases true s = sym (eqb-true (t .kind) ident (and-left _ _ s))
     cases false s = rw (ne-eqb (t .kind) typeName (λ (q : t .kind ≡ typeName). omega arith))

@@ -11,14 +11,13 @@ use Rattle.lexer.specs.internal.Kinds.{ident, keyword, boolean, sizeof, int, st
 use Rattle.lexer.specs.internal.Kinds.{semicolon, tilde, leftBrace, rightBrace, leftParen, rightParen, leftBracket, rightBracket, bang}
 use Rattle.lexer.specs.internal.Kinds.{caret, backslash, question, dot, hash, star, questionQuestion, arrow}
 use Rattle.lexer.proofs.Laws.Tests.{and-left, and-right}
-use Rattle.grammar.specs.Grammars.{query, token, part, when, unless, row, rowOf, says, noRow, Names, View}
-use Rattle.grammar.specs.internal.RowKinds.{programRow, importRow, foreignRow, traitRow, implRow, functionRow, structRow, enumRow}
-use Rattle.grammar.specs.internal.RowKinds.{constantRow, headerRow, parameterRow, variantRow, listRow, blockRow, letRow}
-use Rattle.grammar.specs.internal.RowKinds.{setNameRow, setElementRow, deferRow, whileRow, foreachRow, literalRow, nameRow}
-use Rattle.grammar.specs.internal.RowKinds.{binaryRow, notRow, returnRow, complementRow, tryRow, closureRow, sizeofRow}
-use Rattle.grammar.specs.internal.RowKinds.{aggregateRow, sliceRow, conditionalRow, callRow, memberRow, castRow, matchRow, armRow}
-use Rattle.grammar.specs.internal.RowKinds.{payloadRow, baseTypeRow, pointerRow, optionalRow, sliceTypeRow, resultRow}
-use Rattle.grammar.specs.internal.RowKinds.{functionTypeRow, instanceRow, namedTypeRow}
+use Rattle.grammar.specs.Grammars.{query, token, derived, when, unless, givesRow, rowOf, givesKind, noRow, Names, View}
+use Rattle.tree.specs.internal.RowKinds.{programRow, importRow, foreignRow, traitRow, implRow, functionRow, structRow, enumRow}
+use Rattle.tree.specs.internal.RowKinds.{constantRow, headerRow, parameterRow, variantRow, listRow, blockRow, letRow, setNameRow}
+use Rattle.tree.specs.internal.RowKinds.{setElementRow, deferRow, whileRow, foreachRow, literalRow, nameRow, binaryRow, notRow}
+use Rattle.tree.specs.internal.RowKinds.{returnRow, complementRow, tryRow, closureRow, sizeofRow, aggregateRow, sliceRow}
+use Rattle.tree.specs.internal.RowKinds.{conditionalRow, callRow, memberRow, castRow, matchRow, armRow, payloadRow, baseTypeRow}
+use Rattle.tree.specs.internal.RowKinds.{pointerRow, optionalRow, sliceTypeRow, resultRow, functionTypeRow, instanceRow, namedTypeRow}
 use Rattle.grammar.specs.internal.Nonterminals.{program, declarations, declaration, alias, interface, interfaceRest, methods}
 use Rattle.grammar.specs.internal.Nonterminals.{method, body, functions, function, definition, mutable, fields, field, fieldName}
 use Rattle.grammar.specs.internal.Nonterminals.{parameters, parameter, variants, variant, payloadTypes, typeParameters, nameList}
@@ -26,15 +25,15 @@ use Rattle.grammar.specs.internal.Nonterminals.{moreNames, block, statem
 use Rattle.grammar.specs.internal.Nonterminals.{loopOrComplement, expressions, expression, literal, tryOrClosure, typeArguments}
 use Rattle.grammar.specs.internal.Nonterminals.{wordList, moreWords, castRest, selector, arms, arm, payloads3, payloads2}
 use Rattle.grammar.specs.internal.Nonterminals.{payloads1, payload, types, type, parenthesized, structParameters}
-use Rattle.grammar.specs.internal.Classes.{name, declaredWord, word, payloadToken, literals, operators}
-use Rattle.grammar.specs.Reading.{none, one, choice}
+use Rattle.grammar.specs.internal.Classes.{name, declaredWord, anyWord, payloadToken, literals, operators}
+use Rattle.grammar.specs.Reading.{none, selected, choice}
 use Rattle.grammar.specs.Nurl.{anyName, plainName, asks, productions}
-use Rattle.grammar.specs.internal.Nurl.{one as only, rule, aTilde, aBrace, aStar, opensNames, opensWords, opensStruct, twoNames}
-use Rattle.grammar.specs.internal.Nurl.{opensClosure, zeroOrOne, opensStructNames}
-use Rattle.grammar.specs.Alternatives.{alternative, nth, kindOf, kindAlternative}
+use Rattle.grammar.specs.internal.Productions.{kindToken, ruleOf, aTilde, aBrace, aStar, opensNames, opensWords, opensStruct}
+use Rattle.grammar.specs.internal.Productions.{twoNames, opensClosure, zeroOrOne, opensStructNames}
+use Rattle.grammar.specs.internal.Alternatives.{alternative, nth, kindOfClass, kindAlternative}
 use Rattle.grammar.proofs.Laws.Checks.{implies, every, below}
 use Rattle.grammar.proofs.Laws.CheckLaws.{below-at}
-use Rattle.grammar.proofs.Laws.Alternatives.{asksSome, asksWithin, asksOnly, asksNone, choice-nth, choice-plain}
+use Rattle.grammar.proofs.Laws.Alternatives.{asksSome, asksWithin, choice-nth, choice-plain}
 use Rattle.grammar.proofs.Laws.Groups17.{number17, number-same, kindNumber, kind-same}
 use Rattle.grammar.proofs.Laws.Views.{classes}
 
@@ -63,23 +62,6 @@ whether-some m n h = ap (λ (s : ℕ). whetherSome s m n) h
 whether-none : {k : ℕ} (m n : ℕ) → k ≡ 0 → whetherSome k m n ≡ n
 unfolding whetherSome
 whether-none m n h = ap (λ (s : ℕ). whetherSome s m n) h
-
--- what is taken, where x asks no question but q ..
-pub takes17 : (v : View) (e : Names) (j x q : ℕ) (b : Bool) (expected : ℕ → ℕ) → asksOnly q x productions ≡ true
-    → below (λ (c : ℕ). eqb (alternative productions c b x) (expected c)) classes ≡ true → v .class e j < classes
-    → v .holds q j ≡ b → choice productions v e x j ≡ nth x (expected (v .class e j)) productions
-takes17 v e j x q b expected asks test low answer =
-    choice-nth productions v e x j q asks
-    ∙ ap (λ (t : Bool). nth x (alternative productions (v .class e j) t x) productions) answer
-    ∙ ap (λ (n : ℕ). nth x n productions) (eqb-true _ (expected (v .class e j)) (below-at _ classes (v .class e j) test low))
-
--- .. and where it asks none
-pub takes17-plain : (v : View) (e : Names) (j x : ℕ) (expected : ℕ → ℕ) → asksNone x productions ≡ true
-    → below (λ (c : ℕ). eqb (alternative productions c false x) (expected c)) classes ≡ true → v .class e j < classes
-    → choice productions v e x j ≡ nth x (expected (v .class e j)) productions
-takes17-plain v e j x expected asks test low =
-    choice-plain productions v e x j false asks
-    ∙ ap (λ (n : ℕ). nth x n productions) (eqb-true _ (expected (v .class e j)) (below-at _ classes (v .class e j) test low))
 
 -- Both tests of x, as one that computes. The numbers that are expected may look up what a token of a kind begins.
 unfoldable numbered : (ℕ → Bool) → Bool → ℕ → ((ℕ → ℕ → ℕ) → ℕ → ℕ) → Bool
@@ -119,63 +101,63 @@ same x h = ap (λ (n : ℕ). nth x n productions) h
 -- the number of each nonterminal's alternative by the class of the token, and the test of it
 
 abbrev declarationsNumber : (ℕ → ℕ → ℕ) → ℕ → ℕ
-declarationsNumber look c = whetherSome (look declaration (kindOf c)) 1 2
+declarationsNumber look c = whetherSome (look declaration (kindOfClass c)) 1 2
 
 declarations-numbers : plainly declarations declarationsNumber ≡ true
 unfolding numbered
 declarations-numbers = refl
 
 abbrev fieldsNumber : (ℕ → ℕ → ℕ) → ℕ → ℕ
-fieldsNumber look c = whetherSome (look type (kindOf c)) 1 2
+fieldsNumber look c = whetherSome (look type (kindOfClass c)) 1 2
 
 fields-numbers : plainly fields fieldsNumber ≡ true
 unfolding numbered
 fields-numbers = refl
 
 abbrev parametersNumber : (ℕ → ℕ → ℕ) → ℕ → ℕ
-parametersNumber look c = whetherSome (look type (kindOf c)) 1 2
+parametersNumber look c = whetherSome (look type (kindOfClass c)) 1 2
 
 parameters-numbers : plainly parameters parametersNumber ≡ true
 unfolding numbered
 parameters-numbers = refl
 
 abbrev typesNumber : (ℕ → ℕ → ℕ) → ℕ → ℕ
-typesNumber look c = whetherSome (look type (kindOf c)) 1 2
+typesNumber look c = whetherSome (look type (kindOfClass c)) 1 2
 
 types-numbers : plainly types typesNumber ≡ true
 unfolding numbered
 types-numbers = refl
 
 abbrev statementsNumber : (ℕ → ℕ → ℕ) → ℕ → ℕ
-statementsNumber look c = whetherSome (look statement (kindOf c)) 1 2
+statementsNumber look c = whetherSome (look statement (kindOfClass c)) 1 2
 
 statements-numbers : plainly statements statementsNumber ≡ true
 unfolding numbered
 statements-numbers = refl
 
 abbrev expressionsNumber : (ℕ → ℕ → ℕ) → ℕ → ℕ
-expressionsNumber look c = whetherSome (look expression (kindOf c)) 1 2
+expressionsNumber look c = whetherSome (look expression (kindOfClass c)) 1 2
 
 expressions-numbers : plainly expressions expressionsNumber ≡ true
 unfolding numbered
 expressions-numbers = refl
 
 abbrev armsNumber : (ℕ → ℕ → ℕ) → ℕ → ℕ
-armsNumber look c = whether (among (ident ∷ boolean ∷ []) (kindOf c)) 1 2
+armsNumber look c = whether (among (ident ∷ boolean ∷ []) (kindOfClass c)) 1 2
 
 arms-numbers : plainly arms armsNumber ≡ true
 unfolding numbered
 arms-numbers = refl
 
 abbrev methodsNumber : (ℕ → ℕ → ℕ) → ℕ → ℕ
-methodsNumber look c = whether (eqb (kindOf c) at) 1 2
+methodsNumber look c = whether (eqb (kindOfClass c) at) 1 2
 
 methods-numbers : plainly methods methodsNumber ≡ true
 unfolding numbered
 methods-numbers = refl
 
 abbrev functionsNumber : (ℕ → ℕ → ℕ) → ℕ → ℕ
-functionsNumber look c = whether (eqb (kindOf c) at) 1 2
+functionsNumber look c = whether (eqb (kindOfClass c) at) 1 2
 
 functions-numbers : plainly functions functionsNumber ≡ true
 unfolding numbered
@@ -189,91 +171,91 @@ unfolding numbered
 variants-numbers = refl
 
 abbrev payloadTypesNumber : (ℕ → ℕ → ℕ) → ℕ → ℕ
-payloadTypesNumber look c = whether (eqb c ident) 2 (whetherSome (look type (kindOf c)) 1 2)
+payloadTypesNumber look c = whether (eqb c ident) 2 (whetherSome (look type (kindOfClass c)) 1 2)
 
 payloadTypes-numbers : plainly payloadTypes payloadTypesNumber ≡ true
 unfolding numbered
 payloadTypes-numbers = refl
 
 abbrev payloadTypesNumberAgain : (ℕ → ℕ → ℕ) → ℕ → ℕ
-payloadTypesNumberAgain look c = whetherSome (look type (kindOf c)) (whether (eqb c ident) 2 1) 2
+payloadTypesNumberAgain look c = whetherSome (look type (kindOfClass c)) (whether (eqb c ident) 2 1) 2
 
 payloadTypes-numbers-again : plainly payloadTypes payloadTypesNumberAgain ≡ true
 unfolding numbered
 payloadTypes-numbers-again = refl
 
 abbrev moreNamesNumber : (ℕ → ℕ → ℕ) → ℕ → ℕ
-moreNamesNumber look c = whether (among (ident ∷ boolean ∷ []) (kindOf c)) 1 2
+moreNamesNumber look c = whether (among (ident ∷ boolean ∷ []) (kindOfClass c)) 1 2
 
 moreNames-numbers : plainly moreNames moreNamesNumber ≡ true
 unfolding numbered
 moreNames-numbers = refl
 
 abbrev moreWordsNumber : (ℕ → ℕ → ℕ) → ℕ → ℕ
-moreWordsNumber look c = whether (among (ident ∷ boolean ∷ keyword ∷ []) (kindOf c)) 1 2
+moreWordsNumber look c = whether (among (ident ∷ boolean ∷ keyword ∷ []) (kindOfClass c)) 1 2
 
 moreWords-numbers : plainly moreWords moreWordsNumber ≡ true
 unfolding numbered
 moreWords-numbers = refl
 
 abbrev payloads3Number : (ℕ → ℕ → ℕ) → ℕ → ℕ
-payloads3Number look c = whether (among (ident ∷ int ∷ []) (kindOf c)) 1 2
+payloads3Number look c = whether (among (ident ∷ int ∷ []) (kindOfClass c)) 1 2
 
 payloads3-numbers : plainly payloads3 payloads3Number ≡ true
 unfolding numbered
 payloads3-numbers = refl
 
 abbrev payloads2Number : (ℕ → ℕ → ℕ) → ℕ → ℕ
-payloads2Number look c = whether (among (ident ∷ int ∷ []) (kindOf c)) 1 2
+payloads2Number look c = whether (among (ident ∷ int ∷ []) (kindOfClass c)) 1 2
 
 payloads2-numbers : plainly payloads2 payloads2Number ≡ true
 unfolding numbered
 payloads2-numbers = refl
 
 abbrev payloads1Number : (ℕ → ℕ → ℕ) → ℕ → ℕ
-payloads1Number look c = whether (among (ident ∷ int ∷ []) (kindOf c)) 1 2
+payloads1Number look c = whether (among (ident ∷ int ∷ []) (kindOfClass c)) 1 2
 
 payloads1-numbers : plainly payloads1 payloads1Number ≡ true
 unfolding numbered
 payloads1-numbers = refl
 
 abbrev aliasNumber : (ℕ → ℕ → ℕ) → ℕ → ℕ
-aliasNumber look c = whether (eqb (kindOf c) ident) 1 2
+aliasNumber look c = whether (eqb (kindOfClass c) ident) 1 2
 
 alias-numbers : plainly alias aliasNumber ≡ true
 unfolding numbered
 alias-numbers = refl
 
 abbrev fieldNameNumber : (ℕ → ℕ → ℕ) → ℕ → ℕ
-fieldNameNumber look c = whether (eqb (kindOf c) ident) 1 2
+fieldNameNumber look c = whether (eqb (kindOfClass c) ident) 1 2
 
 fieldName-numbers : plainly fieldName fieldNameNumber ≡ true
 unfolding numbered
 fieldName-numbers = refl
 
 abbrev mutableNumber : (ℕ → ℕ → ℕ) → ℕ → ℕ
-mutableNumber look c = whether (eqb (kindOf c) tilde) 1 2
+mutableNumber look c = whether (eqb (kindOfClass c) tilde) 1 2
 
 mutable-numbers : plainly mutable mutableNumber ≡ true
 unfolding numbered
 mutable-numbers = refl
 
 abbrev bodyNumber : (ℕ → ℕ → ℕ) → ℕ → ℕ
-bodyNumber look c = whether (eqb (kindOf c) leftBrace) 1 2
+bodyNumber look c = whether (eqb (kindOfClass c) leftBrace) 1 2
 
 body-numbers : plainly body bodyNumber ≡ true
 unfolding numbered
 body-numbers = refl
 
 abbrev loopOrComplementNumber : (ℕ → ℕ → ℕ) → ℕ → ℕ
-loopOrComplementNumber look c = whether (eqb (kindOf c) leftBrace) 1 2
+loopOrComplementNumber look c = whether (eqb (kindOfClass c) leftBrace) 1 2
 
 loopOrComplement-numbers : plainly loopOrComplement loopOrComplementNumber ≡ true
 unfolding numbered
 loopOrComplement-numbers = refl
 
 abbrev typeParametersNumberYes : (ℕ → ℕ → ℕ) → ℕ → ℕ
-typeParametersNumberYes look c = whether (eqb (kindOf c) leftBracket) 1 0
+typeParametersNumberYes look c = whether (eqb (kindOfClass c) leftBracket) 1 0
 
 typeParameters-numbers-yes : answered opensNames true typeParameters typeParametersNumberYes ≡ true
 unfolding numbered
@@ -287,7 +269,7 @@ unfolding numbered
 typeParameters-numbers-no = refl
 
 abbrev structParametersNumberYes : (ℕ → ℕ → ℕ) → ℕ → ℕ
-structParametersNumberYes look c = whether (eqb (kindOf c) leftBracket) 1 0
+structParametersNumberYes look c = whether (eqb (kindOfClass c) leftBracket) 1 0
 
 structParameters-numbers-yes : answered opensStructNames true structParameters structParametersNumberYes ≡ true
 unfolding numbered
@@ -301,7 +283,7 @@ unfolding numbered
 structParameters-numbers-no = refl
 
 abbrev typeArgumentsNumberYes : (ℕ → ℕ → ℕ) → ℕ → ℕ
-typeArgumentsNumberYes look c = whether (eqb (kindOf c) leftBracket) 1 0
+typeArgumentsNumberYes look c = whether (eqb (kindOfClass c) leftBracket) 1 0
 
 typeArguments-numbers-yes : answered opensWords true typeArguments typeArgumentsNumberYes ≡ true
 unfolding numbered
@@ -315,7 +297,7 @@ unfolding numbered
 typeArguments-numbers-no = refl
 
 abbrev selectorNumberYes : (ℕ → ℕ → ℕ) → ℕ → ℕ
-selectorNumberYes look c = whether (among literals (kindOf c)) 1 0
+selectorNumberYes look c = whether (among literals (kindOfClass c)) 1 0
 
 selector-numbers-yes : answered zeroOrOne true selector selectorNumberYes ≡ true
 unfolding numbered
@@ -329,49 +311,50 @@ unfolding numbered
 selector-numbers-no = refl
 
 abbrev tildeStatementNumberYes : (ℕ → ℕ → ℕ) → ℕ → ℕ
-tildeStatementNumberYes look c = whether (eqb (kindOf c) ident) 1 0
+tildeStatementNumberYes look c = whether (eqb (kindOfClass c) ident) 1 0
 
 tildeStatement-numbers-yes : answered twoNames true tildeStatement tildeStatementNumberYes ≡ true
 unfolding numbered
 tildeStatement-numbers-yes = refl
 
 abbrev tildeStatementNumberNo : (ℕ → ℕ → ℕ) → ℕ → ℕ
-tildeStatementNumberNo look c = whetherSome (look expression (kindOf c)) 2 0
+tildeStatementNumberNo look c = whetherSome (look expression (kindOfClass c)) 2 0
 
 tildeStatement-numbers-no : answered twoNames false tildeStatement tildeStatementNumberNo ≡ true
 unfolding numbered
 tildeStatement-numbers-no = refl
 
 abbrev tryOrClosureNumberYes : (ℕ → ℕ → ℕ) → ℕ → ℕ
-tryOrClosureNumberYes look c = whetherSome (look type (kindOf c)) 2 (whether (eqb (kindOf c) arrow) 2 0)
+tryOrClosureNumberYes look c = whetherSome (look type (kindOfClass c)) 2 (whether (eqb (kindOfClass c) arrow) 2 0)
 
 tryOrClosure-numbers-yes : answered opensClosure true tryOrClosure tryOrClosureNumberYes ≡ true
 unfolding numbered
 tryOrClosure-numbers-yes = refl
 
 abbrev tryOrClosureNumberYesAgain : (ℕ → ℕ → ℕ) → ℕ → ℕ
-tryOrClosureNumberYesAgain look c = whether (eqb (kindOf c) arrow) 2 (whetherSome (look type (kindOf c)) 2 0)
+tryOrClosureNumberYesAgain look c = whether (eqb (kindOfClass c) arrow) 2 (whetherSome (look type (kindOfClass c)) 2 0)
 
 tryOrClosure-numbers-yes-again : answered opensClosure true tryOrClosure tryOrClosureNumberYesAgain ≡ true
 unfolding numbered
 tryOrClosure-numbers-yes-again = refl
 
 abbrev tryOrClosureNumberNo : (ℕ → ℕ → ℕ) → ℕ → ℕ
-tryOrClosureNumberNo look c = whetherSome (look expression (kindOf c)) 1 0
+tryOrClosureNumberNo look c = whetherSome (look expression (kindOfClass c)) 1 0
 
 tryOrClosure-numbers-no : answered opensClosure false tryOrClosure tryOrClosureNumberNo ≡ true
 unfolding numbered
 tryOrClosure-numbers-no = refl
 
 abbrev definitionNumberYes : (ℕ → ℕ → ℕ) → ℕ → ℕ
-definitionNumberYes look c = whether (eqb (kindOf c) ident) 1 (whether (eqb (kindOf c) bar) 2 0)
+definitionNumberYes look c = whether (eqb (kindOfClass c) ident) 1 (whether (eqb (kindOfClass c) bar) 2 0)
 
 definition-numbers-yes : answered opensStruct true definition definitionNumberYes ≡ true
 unfolding numbered
 definition-numbers-yes = refl
 
 abbrev definitionNumberNo : (ℕ → ℕ → ℕ) → ℕ → ℕ
-definitionNumberNo look c = whetherSome (look type (kindOf c)) 3 (whether (eqb (kindOf c) tilde) 3 (whether (eqb (kindOf c) bar) 2 0))
+definitionNumberNo look c =
+    whetherSome (look type (kindOfClass c)) 3 (whether (eqb (kindOfClass c) tilde) 3 (whether (eqb (kindOfClass c) bar) 2 0))
 
 definition-numbers-no : answered opensStruct false definition definitionNumberNo ≡ true
 unfolding numbered
@@ -379,49 +362,49 @@ definition-numbers-no = refl
 
 abbrev definitionNumberNoAgain : (ℕ → ℕ → ℕ) → ℕ → ℕ
 definitionNumberNoAgain look c =
-    whether (eqb (kindOf c) tilde) 3 (whether (eqb (kindOf c) bar) 2 (whetherSome (look type (kindOf c)) 3 0))
+    whether (eqb (kindOfClass c) tilde) 3 (whether (eqb (kindOfClass c) bar) 2 (whetherSome (look type (kindOfClass c)) 3 0))
 
 definition-numbers-no-again : answered opensStruct false definition definitionNumberNoAgain ≡ true
 unfolding numbered
 definition-numbers-no-again = refl
 
 abbrev interfaceRestNumber : (ℕ → ℕ → ℕ) → ℕ → ℕ
-interfaceRestNumber look c = whether (eqb (kindOf c) leftBrace) 1 (whetherSome (look type (kindOf c)) 2 0)
+interfaceRestNumber look c = whether (eqb (kindOfClass c) leftBrace) 1 (whetherSome (look type (kindOfClass c)) 2 0)
 
 interfaceRest-numbers : plainly interfaceRest interfaceRestNumber ≡ true
 unfolding numbered
 interfaceRest-numbers = refl
 
 abbrev interfaceRestNumberAgain : (ℕ → ℕ → ℕ) → ℕ → ℕ
-interfaceRestNumberAgain look c = whetherSome (look type (kindOf c)) 2 (whether (eqb (kindOf c) leftBrace) 1 0)
+interfaceRestNumberAgain look c = whetherSome (look type (kindOfClass c)) 2 (whether (eqb (kindOfClass c) leftBrace) 1 0)
 
 interfaceRest-numbers-again : plainly interfaceRest interfaceRestNumberAgain ≡ true
 unfolding numbered
 interfaceRest-numbers-again = refl
 
 abbrev bindingNumber : (ℕ → ℕ → ℕ) → ℕ → ℕ
-bindingNumber look c = whether (eqb c ident) 2 (whetherSome (look type (kindOf c)) 1 0)
+bindingNumber look c = whether (eqb c ident) 2 (whetherSome (look type (kindOfClass c)) 1 0)
 
 binding-numbers : plainly binding bindingNumber ≡ true
 unfolding numbered
 binding-numbers = refl
 
 abbrev assignmentNumber : (ℕ → ℕ → ℕ) → ℕ → ℕ
-assignmentNumber look c = whether (eqb (kindOf c) ident) 1 (whether (eqb (kindOf c) dot) 2 0)
+assignmentNumber look c = whether (eqb (kindOfClass c) ident) 1 (whether (eqb (kindOfClass c) dot) 2 0)
 
 assignment-numbers : plainly assignment assignmentNumber ≡ true
 unfolding numbered
 assignment-numbers = refl
 
 abbrev castRestNumber : (ℕ → ℕ → ℕ) → ℕ → ℕ
-castRestNumber look c = whether (eqb (kindOf c) star) 1 (whetherSome (look type (kindOf c)) 2 0)
+castRestNumber look c = whether (eqb (kindOfClass c) star) 1 (whetherSome (look type (kindOfClass c)) 2 0)
 
 castRest-numbers : plainly castRest castRestNumber ≡ true
 unfolding numbered
 castRest-numbers = refl
 
 abbrev parenthesizedNumber : (ℕ → ℕ → ℕ) → ℕ → ℕ
-parenthesizedNumber look c = whether (eqb (kindOf c) at) 1 (whether (eqb (kindOf c) ident) 2 0)
+parenthesizedNumber look c = whether (eqb (kindOfClass c) at) 1 (whether (eqb (kindOfClass c) ident) 2 0)
 
 parenthesized-numbers : plainly parenthesized parenthesizedNumber ≡ true
 unfolding numbered
@@ -435,56 +418,56 @@ unfolding numbered
 program-numbers = refl
 
 abbrev blockNumber : (ℕ → ℕ → ℕ) → ℕ → ℕ
-blockNumber look c = whether (eqb (kindOf c) leftBrace) 1 0
+blockNumber look c = whether (eqb (kindOfClass c) leftBrace) 1 0
 
 block-numbers : plainly block blockNumber ≡ true
 unfolding numbered
 block-numbers = refl
 
 abbrev literalNumber : (ℕ → ℕ → ℕ) → ℕ → ℕ
-literalNumber look c = whether (among literals (kindOf c)) 1 0
+literalNumber look c = whether (among literals (kindOfClass c)) 1 0
 
 literal-numbers : plainly literal literalNumber ≡ true
 unfolding numbered
 literal-numbers = refl
 
 abbrev payloadNumber : (ℕ → ℕ → ℕ) → ℕ → ℕ
-payloadNumber look c = whether (among (ident ∷ int ∷ []) (kindOf c)) 1 0
+payloadNumber look c = whether (among (ident ∷ int ∷ []) (kindOfClass c)) 1 0
 
 payload-numbers : plainly payload payloadNumber ≡ true
 unfolding numbered
 payload-numbers = refl
 
 abbrev parameterNumber : (ℕ → ℕ → ℕ) → ℕ → ℕ
-parameterNumber look c = whetherSome (look type (kindOf c)) 1 0
+parameterNumber look c = whetherSome (look type (kindOfClass c)) 1 0
 
 parameter-numbers : plainly parameter parameterNumber ≡ true
 unfolding numbered
 parameter-numbers = refl
 
 abbrev fieldNumber : (ℕ → ℕ → ℕ) → ℕ → ℕ
-fieldNumber look c = whetherSome (look type (kindOf c)) 1 0
+fieldNumber look c = whetherSome (look type (kindOfClass c)) 1 0
 
 field-numbers : plainly field fieldNumber ≡ true
 unfolding numbered
 field-numbers = refl
 
 abbrev armNumber : (ℕ → ℕ → ℕ) → ℕ → ℕ
-armNumber look c = whether (among (ident ∷ boolean ∷ []) (kindOf c)) 1 0
+armNumber look c = whether (among (ident ∷ boolean ∷ []) (kindOfClass c)) 1 0
 
 arm-numbers : plainly arm armNumber ≡ true
 unfolding numbered
 arm-numbers = refl
 
 abbrev functionNumber : (ℕ → ℕ → ℕ) → ℕ → ℕ
-functionNumber look c = whether (eqb (kindOf c) at) 1 0
+functionNumber look c = whether (eqb (kindOfClass c) at) 1 0
 
 function-numbers : plainly function functionNumber ≡ true
 unfolding numbered
 function-numbers = refl
 
 abbrev methodNumber : (ℕ → ℕ → ℕ) → ℕ → ℕ
-methodNumber look c = whether (eqb (kindOf c) at) 1 0
+methodNumber look c = whether (eqb (kindOfClass c) at) 1 0
 
 method-numbers : plainly method methodNumber ≡ true
 unfolding numbered
@@ -498,49 +481,49 @@ unfolding numbered
 variant-numbers = refl
 
 abbrev nameListNumber : (ℕ → ℕ → ℕ) → ℕ → ℕ
-nameListNumber look c = whether (eqb (kindOf c) leftBracket) 1 0
+nameListNumber look c = whether (eqb (kindOfClass c) leftBracket) 1 0
 
 nameList-numbers : plainly nameList nameListNumber ≡ true
 unfolding numbered
 nameList-numbers = refl
 
 abbrev wordListNumber : (ℕ → ℕ → ℕ) → ℕ → ℕ
-wordListNumber look c = whether (eqb (kindOf c) leftBracket) 1 0
+wordListNumber look c = whether (eqb (kindOfClass c) leftBracket) 1 0
 
 wordList-numbers : plainly wordList wordListNumber ≡ true
 unfolding numbered
 wordList-numbers = refl
 
 abbrev interfaceNumber : (ℕ → ℕ → ℕ) → ℕ → ℕ
-interfaceNumber look c = whether (eqb (kindOf c) percent) 1 0
+interfaceNumber look c = whether (eqb (kindOfClass c) percent) 1 0
 
 interface-numbers : plainly interface interfaceNumber ≡ true
 unfolding numbered
 interface-numbers = refl
 
 abbrev typeNumber : (ℕ → ℕ → ℕ) → ℕ → ℕ
-typeNumber look c = look type (kindOf c)
+typeNumber look c = look type (kindOfClass c)
 
 type-numbers : plainly type typeNumber ≡ true
 unfolding numbered
 type-numbers = refl
 
 abbrev expressionNumber : (ℕ → ℕ → ℕ) → ℕ → ℕ
-expressionNumber look c = look expression (kindOf c)
+expressionNumber look c = look expression (kindOfClass c)
 
 expression-numbers : plainly expression expressionNumber ≡ true
 unfolding numbered
 expression-numbers = refl
 
 abbrev statementNumber : (ℕ → ℕ → ℕ) → ℕ → ℕ
-statementNumber look c = look statement (kindOf c)
+statementNumber look c = look statement (kindOfClass c)
 
 statement-numbers : plainly statement statementNumber ≡ true
 unfolding numbered
 statement-numbers = refl
 
 abbrev declarationNumber : (ℕ → ℕ → ℕ) → ℕ → ℕ
-declarationNumber look c = look declaration (kindOf c)
+declarationNumber look c = look declaration (kindOfClass c)
 
 declaration-numbers : plainly declaration declarationNumber ≡ true
 unfolding numbered
@@ -548,145 +531,160 @@ declaration-numbers = refl
 
 -- the productions by their numbers
 
-pub type-base : nth type 1 productions ≡ one (rule type (row baseTypeRow) (only keyword ∷ []))
+pub type-base : nth type 1 productions ≡ selected (ruleOf type (givesRow baseTypeRow) (kindToken keyword ∷ []))
 unfolding nth productions
 type-base = refl
 
-pub type-pointer : nth type 2 productions ≡ one (rule type (row pointerRow) (only star ∷ part type ∷ []))
+pub type-pointer : nth type 2 productions ≡ selected (ruleOf type (givesRow pointerRow) (kindToken star ∷ derived type ∷ []))
 unfolding nth productions
 type-pointer = refl
 
-pub type-optional : nth type 3 productions ≡ one (rule type (row optionalRow) (only question ∷ part type ∷ []))
+pub type-optional : nth type 3 productions ≡ selected (ruleOf type (givesRow optionalRow) (kindToken question ∷ derived type ∷ []))
 unfolding nth productions
 type-optional = refl
 
-pub type-slice : nth type 4 productions ≡ one (rule type (row sliceTypeRow) (only leftBracket ∷ part type ∷ []))
+pub type-slice : nth type 4 productions ≡ selected (ruleOf type (givesRow sliceTypeRow) (kindToken leftBracket ∷ derived type ∷ []))
 unfolding nth productions
 type-slice = refl
 
-pub type-result : nth type 5 productions ≡ one (rule type (row resultRow) (only bang ∷ part type ∷ part type ∷ []))
+pub type-result : nth type 5 productions ≡
+    selected (ruleOf type (givesRow resultRow) (kindToken bang ∷ derived type ∷ derived type ∷ []))
 unfolding nth productions
 type-result = refl
 
-pub type-parenthesized : nth type 6 productions ≡ one (rule type rowOf (only leftParen ∷ part parenthesized ∷ []))
+pub type-parenthesized : nth type 6 productions ≡ selected (ruleOf type rowOf (kindToken leftParen ∷ derived parenthesized ∷ []))
 unfolding nth productions
 type-parenthesized = refl
 
-pub type-named : nth type 7 productions ≡ one (rule type (row namedTypeRow) (token declaredWord ∷ []))
+pub type-named : nth type 7 productions ≡ selected (ruleOf type (givesRow namedTypeRow) (token declaredWord ∷ []))
 unfolding nth productions
 type-named = refl
 
-pub expression-literal : nth expression 1 productions ≡ one (rule expression noRow (part literal ∷ []))
+pub expression-literal : nth expression 1 productions ≡ selected (ruleOf expression noRow (derived literal ∷ []))
 unfolding nth productions
 expression-literal = refl
 
-pub expression-name : nth expression 2 productions ≡ one (rule expression (row nameRow) (token name ∷ []))
+pub expression-name : nth expression 2 productions ≡ selected (ruleOf expression (givesRow nameRow) (token name ∷ []))
 unfolding nth productions
 expression-name = refl
 
 pub expression-binary : nth expression 3 productions ≡
-    one (rule expression (row binaryRow) (token operators ∷ part expression ∷ part expression ∷ []))
+    selected (ruleOf expression (givesRow binaryRow) (token operators ∷ derived expression ∷ derived expression ∷ []))
 unfolding nth productions
 expression-binary = refl
 
-pub expression-not : nth expression 4 productions ≡ one (rule expression (row notRow) (only bang ∷ part expression ∷ []))
+pub expression-not : nth expression 4 productions ≡
+    selected (ruleOf expression (givesRow notRow) (kindToken bang ∷ derived expression ∷ []))
 unfolding nth productions
 expression-not = refl
 
-pub expression-return : nth expression 5 productions ≡ one (rule expression (row returnRow) (only caret ∷ part expression ∷ []))
+pub expression-return : nth expression 5 productions ≡
+    selected (ruleOf expression (givesRow returnRow) (kindToken caret ∷ derived expression ∷ []))
 unfolding nth productions
 expression-return = refl
 
-pub expression-complement : nth expression 6 productions ≡ one (rule expression (row complementRow) (only tilde ∷ part expression ∷ []))
+pub expression-complement : nth expression 6 productions ≡
+    selected (ruleOf expression (givesRow complementRow) (kindToken tilde ∷ derived expression ∷ []))
 unfolding nth productions
 expression-complement = refl
 
-pub expression-backslash : nth expression 7 productions ≡ one (rule expression rowOf (only backslash ∷ part tryOrClosure ∷ []))
+pub expression-backslash : nth expression 7 productions ≡
+    selected (ruleOf expression rowOf (kindToken backslash ∷ derived tryOrClosure ∷ []))
 unfolding nth productions
 expression-backslash = refl
 
-pub expression-sizeof : nth expression 8 productions ≡ one (rule expression (row sizeofRow) (only sizeof ∷ part type ∷ []))
+pub expression-sizeof : nth expression 8 productions ≡
+    selected (ruleOf expression (givesRow sizeofRow) (kindToken sizeof ∷ derived type ∷ []))
 unfolding nth productions
 expression-sizeof = refl
 
 pub expression-conditional : nth expression 9 productions ≡
-    one (rule expression (row conditionalRow) (only question ∷ part expression ∷ part expression ∷ part expression ∷ []))
+    selected (ruleOf expression (givesRow conditionalRow) (kindToken question ∷ derived expression ∷ derived expression ∷
+    derived expression ∷ []))
 unfolding nth productions
 expression-conditional = refl
 
-pub expression-block : nth expression 10 productions ≡ one (rule expression noRow (part block ∷ []))
+pub expression-block : nth expression 10 productions ≡ selected (ruleOf expression noRow (derived block ∷ []))
 unfolding nth productions
 expression-block = refl
 
 pub expression-call : nth expression 11 productions ≡
-    one (rule expression (row callRow) (only leftParen ∷ token name ∷ part typeArguments ∷ part expressions ∷ only rightParen ∷ []))
+    selected (ruleOf expression (givesRow callRow) (kindToken leftParen ∷ token name ∷ derived typeArguments ∷ derived expressions ∷
+    kindToken rightParen ∷ []))
 unfolding nth productions
 expression-call = refl
 
 pub expression-slice : nth expression 12 productions ≡
-    one (rule expression (row sliceRow) (only leftBracket ∷ part type ∷ only bar ∷ part expressions ∷ only rightBracket ∷ []))
+    selected (ruleOf expression (givesRow sliceRow) (kindToken leftBracket ∷ derived type ∷ kindToken bar ∷ derived expressions ∷
+    kindToken rightBracket ∷ []))
 unfolding nth productions
 expression-slice = refl
 
 pub expression-aggregate : nth expression 13 productions ≡
-    one (rule expression (row aggregateRow) (only at ∷ part type ∷ only leftBrace ∷ part expressions ∷ only rightBrace ∷ []))
+    selected (ruleOf expression (givesRow aggregateRow) (kindToken at ∷ derived type ∷ kindToken leftBrace ∷ derived expressions ∷
+    kindToken rightBrace ∷ []))
 unfolding nth productions
 expression-aggregate = refl
 
 pub expression-member : nth expression 14 productions ≡
-    one (rule expression (row memberRow) (only dot ∷ part expression ∷ part expression ∷ []))
+    selected (ruleOf expression (givesRow memberRow) (kindToken dot ∷ derived expression ∷ derived expression ∷ []))
 unfolding nth productions
 expression-member = refl
 
-pub expression-cast : nth expression 15 productions ≡ one (rule expression (row castRow) (only hash ∷ part castRest ∷ []))
+pub expression-cast : nth expression 15 productions ≡
+    selected (ruleOf expression (givesRow castRow) (kindToken hash ∷ derived castRest ∷ []))
 unfolding nth productions
 expression-cast = refl
 
 pub expression-match : nth expression 16 productions ≡
-    one (rule expression (row matchRow) (only questionQuestion ∷ part expression ∷ only leftBrace ∷ part arms ∷ only rightBrace ∷ []))
+    selected (ruleOf expression (givesRow matchRow) (kindToken questionQuestion ∷ derived expression ∷ kindToken leftBrace ∷
+    derived arms ∷ kindToken rightBrace ∷ []))
 unfolding nth productions
 expression-match = refl
 
-pub statement-expression : nth statement 1 productions ≡ one (rule statement noRow (unless aTilde ∷ part expression ∷ []))
+pub statement-expression : nth statement 1 productions ≡ selected (ruleOf statement noRow (unless aTilde ∷ derived expression ∷ []))
 unfolding nth productions
 statement-expression = refl
 
-pub statement-let : nth statement 2 productions ≡ one (rule statement (row letRow) (only colon ∷ part mutable ∷ part binding ∷ []))
+pub statement-let : nth statement 2 productions ≡
+    selected (ruleOf statement (givesRow letRow) (kindToken colon ∷ derived mutable ∷ derived binding ∷ []))
 unfolding nth productions
 statement-let = refl
 
-pub statement-assignment : nth statement 3 productions ≡ one (rule statement rowOf (only equal ∷ part assignment ∷ []))
+pub statement-assignment : nth statement 3 productions ≡ selected (ruleOf statement rowOf (kindToken equal ∷ derived assignment ∷ []))
 unfolding nth productions
 statement-assignment = refl
 
-pub statement-defer : nth statement 4 productions ≡ one (rule statement (row deferRow) (only semicolon ∷ part block ∷ []))
+pub statement-defer : nth statement 4 productions ≡
+    selected (ruleOf statement (givesRow deferRow) (kindToken semicolon ∷ derived block ∷ []))
 unfolding nth productions
 statement-defer = refl
 
-pub statement-tilde : nth statement 5 productions ≡ one (rule statement rowOf (only tilde ∷ part tildeStatement ∷ []))
+pub statement-tilde : nth statement 5 productions ≡ selected (ruleOf statement rowOf (kindToken tilde ∷ derived tildeStatement ∷ []))
 unfolding nth productions
 statement-tilde = refl
 
 pub declaration-import : nth declaration 1 productions ≡
-    one (rule declaration (row importRow) (only dollar ∷ only string ∷ part alias ∷ []))
+    selected (ruleOf declaration (givesRow importRow) (kindToken dollar ∷ kindToken string ∷ derived alias ∷ []))
 unfolding nth productions
 declaration-import = refl
 
 pub declaration-foreign : nth declaration 2 productions ≡
-    one (rule declaration (row foreignRow) (only ampersand ∷ only string ∷ only at ∷ token name ∷ part fields ∷ only arrow ∷ part type ∷
-    []))
+    selected (ruleOf declaration (givesRow foreignRow) (kindToken ampersand ∷ kindToken string ∷ kindToken at ∷ token name ∷
+    derived fields ∷ kindToken arrow ∷ derived type ∷ []))
 unfolding nth productions
 declaration-foreign = refl
 
-pub declaration-function : nth declaration 3 productions ≡ one (rule declaration noRow (part function ∷ []))
+pub declaration-function : nth declaration 3 productions ≡ selected (ruleOf declaration noRow (derived function ∷ []))
 unfolding nth productions
 declaration-function = refl
 
-pub declaration-definition : nth declaration 4 productions ≡ one (rule declaration rowOf (only colon ∷ part definition ∷ []))
+pub declaration-definition : nth declaration 4 productions ≡
+    selected (ruleOf declaration rowOf (kindToken colon ∷ derived definition ∷ []))
 unfolding nth productions
 declaration-definition = refl
 
-pub declaration-interface : nth declaration 5 productions ≡ one (rule declaration noRow (part interface ∷ []))
+pub declaration-interface : nth declaration 5 productions ≡ selected (ruleOf declaration noRow (derived interface ∷ []))
 unfolding nth productions
 declaration-interface = refl
 
@@ -696,7 +694,7 @@ module _ (v : View) (e : Names) (j : ℕ) (low : v .class e j < classes) where
   c = v .class e j
 
   abbrev k : ℕ
-  k = kindOf c
+  k = kindOfClass c
 
   plain : (x : ℕ) (expected : (ℕ → ℕ → ℕ) → ℕ → ℕ) → plainly x expected ≡ true
       → choice productions v e x j ≡ nth x (expected kindAlternative c) productions
@@ -716,11 +714,12 @@ module _ (v : View) (e : Names) (j : ℕ) (low : v .class e j < classes) where
   declarations-at = plain declarations declarationsNumber declarations-numbers
 
   pub declarations-more : {a : ℕ} → kindAlternative declaration k ≡ suc a
-      → choice productions v e declarations j ≡ one (rule declarations noRow (part declaration ∷ part declarations ∷ []))
+      → choice productions v e declarations j ≡ selected (ruleOf declarations noRow (derived declaration ∷ derived declarations ∷ []))
   unfolding nth productions
   declarations-more h = declarations-at ∙ same declarations (whether-some 1 2 h)
 
-  pub declarations-done : kindAlternative declaration k ≡ 0 → choice productions v e declarations j ≡ one (rule declarations noRow [])
+  pub declarations-done : kindAlternative declaration k ≡ 0
+      → choice productions v e declarations j ≡ selected (ruleOf declarations noRow [])
   unfolding nth productions
   declarations-done h = declarations-at ∙ same declarations (whether-none 1 2 h)
 
@@ -728,11 +727,11 @@ module _ (v : View) (e : Names) (j : ℕ) (low : v .class e j < classes) where
   fields-at = plain fields fieldsNumber fields-numbers
 
   pub fields-more : {a : ℕ} → kindAlternative type k ≡ suc a
-      → choice productions v e fields j ≡ one (rule fields noRow (part field ∷ part fields ∷ []))
+      → choice productions v e fields j ≡ selected (ruleOf fields noRow (derived field ∷ derived fields ∷ []))
   unfolding nth productions
   fields-more h = fields-at ∙ same fields (whether-some 1 2 h)
 
-  pub fields-done : kindAlternative type k ≡ 0 → choice productions v e fields j ≡ one (rule fields noRow [])
+  pub fields-done : kindAlternative type k ≡ 0 → choice productions v e fields j ≡ selected (ruleOf fields noRow [])
   unfolding nth productions
   fields-done h = fields-at ∙ same fields (whether-none 1 2 h)
 
@@ -740,11 +739,11 @@ module _ (v : View) (e : Names) (j : ℕ) (low : v .class e j < classes) where
   parameters-at = plain parameters parametersNumber parameters-numbers
 
   pub parameters-more : {a : ℕ} → kindAlternative type k ≡ suc a
-      → choice productions v e parameters j ≡ one (rule parameters noRow (part parameter ∷ part parameters ∷ []))
+      → choice productions v e parameters j ≡ selected (ruleOf parameters noRow (derived parameter ∷ derived parameters ∷ []))
   unfolding nth productions
   parameters-more h = parameters-at ∙ same parameters (whether-some 1 2 h)
 
-  pub parameters-done : kindAlternative type k ≡ 0 → choice productions v e parameters j ≡ one (rule parameters noRow [])
+  pub parameters-done : kindAlternative type k ≡ 0 → choice productions v e parameters j ≡ selected (ruleOf parameters noRow [])
   unfolding nth productions
   parameters-done h = parameters-at ∙ same parameters (whether-none 1 2 h)
 
@@ -752,11 +751,11 @@ module _ (v : View) (e : Names) (j : ℕ) (low : v .class e j < classes) where
   types-at = plain types typesNumber types-numbers
 
   pub types-more : {a : ℕ} → kindAlternative type k ≡ suc a
-      → choice productions v e types j ≡ one (rule types noRow (part type ∷ part types ∷ []))
+      → choice productions v e types j ≡ selected (ruleOf types noRow (derived type ∷ derived types ∷ []))
   unfolding nth productions
   types-more h = types-at ∙ same types (whether-some 1 2 h)
 
-  pub types-done : kindAlternative type k ≡ 0 → choice productions v e types j ≡ one (rule types noRow [])
+  pub types-done : kindAlternative type k ≡ 0 → choice productions v e types j ≡ selected (ruleOf types noRow [])
   unfolding nth productions
   types-done h = types-at ∙ same types (whether-none 1 2 h)
 
@@ -764,11 +763,11 @@ module _ (v : View) (e : Names) (j : ℕ) (low : v .class e j < classes) where
   statements-at = plain statements statementsNumber statements-numbers
 
   pub statements-more : {a : ℕ} → kindAlternative statement k ≡ suc a
-      → choice productions v e statements j ≡ one (rule statements noRow (part statement ∷ part statements ∷ []))
+      → choice productions v e statements j ≡ selected (ruleOf statements noRow (derived statement ∷ derived statements ∷ []))
   unfolding nth productions
   statements-more h = statements-at ∙ same statements (whether-some 1 2 h)
 
-  pub statements-done : kindAlternative statement k ≡ 0 → choice productions v e statements j ≡ one (rule statements noRow [])
+  pub statements-done : kindAlternative statement k ≡ 0 → choice productions v e statements j ≡ selected (ruleOf statements noRow [])
   unfolding nth productions
   statements-done h = statements-at ∙ same statements (whether-none 1 2 h)
 
@@ -776,11 +775,11 @@ module _ (v : View) (e : Names) (j : ℕ) (low : v .class e j < classes) where
   expressions-at = plain expressions expressionsNumber expressions-numbers
 
   pub expressions-more : {a : ℕ} → kindAlternative expression k ≡ suc a
-      → choice productions v e expressions j ≡ one (rule expressions noRow (part expression ∷ part expressions ∷ []))
+      → choice productions v e expressions j ≡ selected (ruleOf expressions noRow (derived expression ∷ derived expressions ∷ []))
   unfolding nth productions
   expressions-more h = expressions-at ∙ same expressions (whether-some 1 2 h)
 
-  pub expressions-done : kindAlternative expression k ≡ 0 → choice productions v e expressions j ≡ one (rule expressions noRow [])
+  pub expressions-done : kindAlternative expression k ≡ 0 → choice productions v e expressions j ≡ selected (ruleOf expressions noRow [])
   unfolding nth productions
   expressions-done h = expressions-at ∙ same expressions (whether-none 1 2 h)
 
@@ -788,33 +787,34 @@ module _ (v : View) (e : Names) (j : ℕ) (low : v .class e j < classes) where
   arms-at = plain arms armsNumber arms-numbers
 
   pub arms-more : among (ident ∷ boolean ∷ []) k ≡ true
-      → choice productions v e arms j ≡ one (rule arms noRow (part arm ∷ part arms ∷ []))
+      → choice productions v e arms j ≡ selected (ruleOf arms noRow (derived arm ∷ derived arms ∷ []))
   unfolding nth productions
   arms-more h = arms-at ∙ same arms (whether-true 1 2 h)
 
-  pub arms-done : among (ident ∷ boolean ∷ []) k ≡ false → choice productions v e arms j ≡ one (rule arms noRow [])
+  pub arms-done : among (ident ∷ boolean ∷ []) k ≡ false → choice productions v e arms j ≡ selected (ruleOf arms noRow [])
   unfolding nth productions
   arms-done h = arms-at ∙ same arms (whether-false 1 2 h)
 
   methods-at : choice productions v e methods j ≡ nth methods (methodsNumber kindAlternative c) productions
   methods-at = plain methods methodsNumber methods-numbers
 
-  pub methods-more : k ≡ at → choice productions v e methods j ≡ one (rule methods noRow (part method ∷ part methods ∷ []))
+  pub methods-more : k ≡ at → choice productions v e methods j ≡ selected (ruleOf methods noRow (derived method ∷ derived methods ∷ []))
   unfolding nth productions
   methods-more h = methods-at ∙ same methods (whether-true 1 2 (ap (λ (n : ℕ). eqb n at) h))
 
-  pub methods-done : eqb k at ≡ false → choice productions v e methods j ≡ one (rule methods noRow [])
+  pub methods-done : eqb k at ≡ false → choice productions v e methods j ≡ selected (ruleOf methods noRow [])
   unfolding nth productions
   methods-done h = methods-at ∙ same methods (whether-false 1 2 h)
 
   functions-at : choice productions v e functions j ≡ nth functions (functionsNumber kindAlternative c) productions
   functions-at = plain functions functionsNumber functions-numbers
 
-  pub functions-more : k ≡ at → choice productions v e functions j ≡ one (rule functions noRow (part function ∷ part functions ∷ []))
+  pub functions-more : k ≡ at
+      → choice productions v e functions j ≡ selected (ruleOf functions noRow (derived function ∷ derived functions ∷ []))
   unfolding nth productions
   functions-more h = functions-at ∙ same functions (whether-true 1 2 (ap (λ (n : ℕ). eqb n at) h))
 
-  pub functions-done : eqb k at ≡ false → choice productions v e functions j ≡ one (rule functions noRow [])
+  pub functions-done : eqb k at ≡ false → choice productions v e functions j ≡ selected (ruleOf functions noRow [])
   unfolding nth productions
   functions-done h = functions-at ∙ same functions (whether-false 1 2 h)
 
@@ -822,11 +822,11 @@ module _ (v : View) (e : Names) (j : ℕ) (low : v .class e j < classes) where
   variants-at = plain variants variantsNumber variants-numbers
 
   pub variants-more : eqb c ident ≡ true
-      → choice productions v e variants j ≡ one (rule variants noRow (part variant ∷ part variants ∷ []))
+      → choice productions v e variants j ≡ selected (ruleOf variants noRow (derived variant ∷ derived variants ∷ []))
   unfolding nth productions
   variants-more h = variants-at ∙ same variants (whether-true 1 2 h)
 
-  pub variants-done : eqb c ident ≡ false → choice productions v e variants j ≡ one (rule variants noRow [])
+  pub variants-done : eqb c ident ≡ false → choice productions v e variants j ≡ selected (ruleOf variants noRow [])
   unfolding nth productions
   variants-done h = variants-at ∙ same variants (whether-false 1 2 h)
 
@@ -834,12 +834,13 @@ module _ (v : View) (e : Names) (j : ℕ) (low : v .class e j < classes) where
   payloadTypes-at = plain payloadTypes payloadTypesNumber payloadTypes-numbers
 
   pub payloadTypes-more : {a : ℕ} → eqb c ident ≡ false → kindAlternative type k ≡ suc a
-      → choice productions v e payloadTypes j ≡ one (rule payloadTypes noRow (unless plainName ∷ part type ∷ part payloadTypes ∷ []))
+      → choice productions v e payloadTypes j ≡
+      selected (ruleOf payloadTypes noRow (unless plainName ∷ derived type ∷ derived payloadTypes ∷ []))
   unfolding nth productions
   payloadTypes-more h h2 = payloadTypes-at ∙ same payloadTypes (whether-false 2 (whetherSome (kindAlternative type k) 1 2) h
       ∙ whether-some 1 2 h2)
 
-  pub payloadTypes-done-plain : eqb c ident ≡ true → choice productions v e payloadTypes j ≡ one (rule payloadTypes noRow [])
+  pub payloadTypes-done-plain : eqb c ident ≡ true → choice productions v e payloadTypes j ≡ selected (ruleOf payloadTypes noRow [])
   unfolding nth productions
   payloadTypes-done-plain h = payloadTypes-at ∙ same payloadTypes (whether-true 2 (whetherSome (kindAlternative type k) 1 2) h)
 
@@ -847,7 +848,7 @@ module _ (v : View) (e : Names) (j : ℕ) (low : v .class e j < classes) where
       nth payloadTypes (payloadTypesNumberAgain kindAlternative c) productions
   payloadTypes-at-again = plain payloadTypes payloadTypesNumberAgain payloadTypes-numbers-again
 
-  pub payloadTypes-done : kindAlternative type k ≡ 0 → choice productions v e payloadTypes j ≡ one (rule payloadTypes noRow [])
+  pub payloadTypes-done : kindAlternative type k ≡ 0 → choice productions v e payloadTypes j ≡ selected (ruleOf payloadTypes noRow [])
   unfolding nth productions
   payloadTypes-done h = payloadTypes-at-again ∙ same payloadTypes (whether-none (whether (eqb c ident) 2 1) 2 h)
 
@@ -855,11 +856,11 @@ module _ (v : View) (e : Names) (j : ℕ) (low : v .class e j < classes) where
   moreNames-at = plain moreNames moreNamesNumber moreNames-numbers
 
   pub moreNames-more : among (ident ∷ boolean ∷ []) k ≡ true
-      → choice productions v e moreNames j ≡ one (rule moreNames noRow (token declaredWord ∷ part moreNames ∷ []))
+      → choice productions v e moreNames j ≡ selected (ruleOf moreNames noRow (token declaredWord ∷ derived moreNames ∷ []))
   unfolding nth productions
   moreNames-more h = moreNames-at ∙ same moreNames (whether-true 1 2 h)
 
-  pub moreNames-done : among (ident ∷ boolean ∷ []) k ≡ false → choice productions v e moreNames j ≡ one (rule moreNames noRow [])
+  pub moreNames-done : among (ident ∷ boolean ∷ []) k ≡ false → choice productions v e moreNames j ≡ selected (ruleOf moreNames noRow [])
   unfolding nth productions
   moreNames-done h = moreNames-at ∙ same moreNames (whether-false 1 2 h)
 
@@ -867,12 +868,12 @@ module _ (v : View) (e : Names) (j : ℕ) (low : v .class e j < classes) where
   moreWords-at = plain moreWords moreWordsNumber moreWords-numbers
 
   pub moreWords-more : among (ident ∷ boolean ∷ keyword ∷ []) k ≡ true
-      → choice productions v e moreWords j ≡ one (rule moreWords noRow (token word ∷ part moreWords ∷ []))
+      → choice productions v e moreWords j ≡ selected (ruleOf moreWords noRow (token anyWord ∷ derived moreWords ∷ []))
   unfolding nth productions
   moreWords-more h = moreWords-at ∙ same moreWords (whether-true 1 2 h)
 
   pub moreWords-done : among (ident ∷ boolean ∷ keyword ∷ []) k ≡ false
-      → choice productions v e moreWords j ≡ one (rule moreWords noRow [])
+      → choice productions v e moreWords j ≡ selected (ruleOf moreWords noRow [])
   unfolding nth productions
   moreWords-done h = moreWords-at ∙ same moreWords (whether-false 1 2 h)
 
@@ -880,11 +881,11 @@ module _ (v : View) (e : Names) (j : ℕ) (low : v .class e j < classes) where
   payloads3-at = plain payloads3 payloads3Number payloads3-numbers
 
   pub payloads3-more : among (ident ∷ int ∷ []) k ≡ true
-      → choice productions v e payloads3 j ≡ one (rule payloads3 noRow (part payload ∷ part payloads2 ∷ []))
+      → choice productions v e payloads3 j ≡ selected (ruleOf payloads3 noRow (derived payload ∷ derived payloads2 ∷ []))
   unfolding nth productions
   payloads3-more h = payloads3-at ∙ same payloads3 (whether-true 1 2 h)
 
-  pub payloads3-done : among (ident ∷ int ∷ []) k ≡ false → choice productions v e payloads3 j ≡ one (rule payloads3 noRow [])
+  pub payloads3-done : among (ident ∷ int ∷ []) k ≡ false → choice productions v e payloads3 j ≡ selected (ruleOf payloads3 noRow [])
   unfolding nth productions
   payloads3-done h = payloads3-at ∙ same payloads3 (whether-false 1 2 h)
 
@@ -892,11 +893,11 @@ module _ (v : View) (e : Names) (j : ℕ) (low : v .class e j < classes) where
   payloads2-at = plain payloads2 payloads2Number payloads2-numbers
 
   pub payloads2-more : among (ident ∷ int ∷ []) k ≡ true
-      → choice productions v e payloads2 j ≡ one (rule payloads2 noRow (part payload ∷ part payloads1 ∷ []))
+      → choice productions v e payloads2 j ≡ selected (ruleOf payloads2 noRow (derived payload ∷ derived payloads1 ∷ []))
   unfolding nth productions
   payloads2-more h = payloads2-at ∙ same payloads2 (whether-true 1 2 h)
 
-  pub payloads2-done : among (ident ∷ int ∷ []) k ≡ false → choice productions v e payloads2 j ≡ one (rule payloads2 noRow [])
+  pub payloads2-done : among (ident ∷ int ∷ []) k ≡ false → choice productions v e payloads2 j ≡ selected (ruleOf payloads2 noRow [])
   unfolding nth productions
   payloads2-done h = payloads2-at ∙ same payloads2 (whether-false 1 2 h)
 
@@ -904,11 +905,11 @@ module _ (v : View) (e : Names) (j : ℕ) (low : v .class e j < classes) where
   payloads1-at = plain payloads1 payloads1Number payloads1-numbers
 
   pub payloads1-more : among (ident ∷ int ∷ []) k ≡ true
-      → choice productions v e payloads1 j ≡ one (rule payloads1 noRow (part payload ∷ []))
+      → choice productions v e payloads1 j ≡ selected (ruleOf payloads1 noRow (derived payload ∷ []))
   unfolding nth productions
   payloads1-more h = payloads1-at ∙ same payloads1 (whether-true 1 2 h)
 
-  pub payloads1-done : among (ident ∷ int ∷ []) k ≡ false → choice productions v e payloads1 j ≡ one (rule payloads1 noRow [])
+  pub payloads1-done : among (ident ∷ int ∷ []) k ≡ false → choice productions v e payloads1 j ≡ selected (ruleOf payloads1 noRow [])
   unfolding nth productions
   payloads1-done h = payloads1-at ∙ same payloads1 (whether-false 1 2 h)
 
@@ -917,44 +918,45 @@ module _ (v : View) (e : Names) (j : ℕ) (low : v .class e j < classes) where
   alias-at : choice productions v e alias j ≡ nth alias (aliasNumber kindAlternative c) productions
   alias-at = plain alias aliasNumber alias-numbers
 
-  pub alias-some : eqb k ident ≡ true → choice productions v e alias j ≡ one (rule alias noRow (token name ∷ []))
+  pub alias-some : eqb k ident ≡ true → choice productions v e alias j ≡ selected (ruleOf alias noRow (token name ∷ []))
   unfolding nth productions
   alias-some h = alias-at ∙ same alias (whether-true 1 2 h)
 
-  pub alias-none : eqb k ident ≡ false → choice productions v e alias j ≡ one (rule alias noRow [])
+  pub alias-none : eqb k ident ≡ false → choice productions v e alias j ≡ selected (ruleOf alias noRow [])
   unfolding nth productions
   alias-none h = alias-at ∙ same alias (whether-false 1 2 h)
 
   fieldName-at : choice productions v e fieldName j ≡ nth fieldName (fieldNameNumber kindAlternative c) productions
   fieldName-at = plain fieldName fieldNameNumber fieldName-numbers
 
-  pub fieldName-some : eqb k ident ≡ true → choice productions v e fieldName j ≡ one (rule fieldName noRow (token name ∷ []))
+  pub fieldName-some : eqb k ident ≡ true → choice productions v e fieldName j ≡ selected (ruleOf fieldName noRow (token name ∷ []))
   unfolding nth productions
   fieldName-some h = fieldName-at ∙ same fieldName (whether-true 1 2 h)
 
-  pub fieldName-none : eqb k ident ≡ false → choice productions v e fieldName j ≡ one (rule fieldName noRow (unless anyName ∷ []))
+  pub fieldName-none : eqb k ident ≡ false → choice productions v e fieldName j ≡ selected (ruleOf fieldName noRow (unless anyName ∷ []))
   unfolding nth productions
   fieldName-none h = fieldName-at ∙ same fieldName (whether-false 1 2 h)
 
   mutable-at : choice productions v e mutable j ≡ nth mutable (mutableNumber kindAlternative c) productions
   mutable-at = plain mutable mutableNumber mutable-numbers
 
-  pub mutable-some : eqb k tilde ≡ true → choice productions v e mutable j ≡ one (rule mutable noRow (only tilde ∷ []))
+  pub mutable-some : eqb k tilde ≡ true → choice productions v e mutable j ≡ selected (ruleOf mutable noRow (kindToken tilde ∷ []))
   unfolding nth productions
   mutable-some h = mutable-at ∙ same mutable (whether-true 1 2 h)
 
-  pub mutable-none : eqb k tilde ≡ false → choice productions v e mutable j ≡ one (rule mutable noRow [])
+  pub mutable-none : eqb k tilde ≡ false → choice productions v e mutable j ≡ selected (ruleOf mutable noRow [])
   unfolding nth productions
   mutable-none h = mutable-at ∙ same mutable (whether-false 1 2 h)
 
   body-at : choice productions v e body j ≡ nth body (bodyNumber kindAlternative c) productions
   body-at = plain body bodyNumber body-numbers
 
-  pub body-some : eqb k leftBrace ≡ true → choice productions v e body j ≡ one (rule body (says functionRow) (part block ∷ []))
+  pub body-some : eqb k leftBrace ≡ true
+      → choice productions v e body j ≡ selected (ruleOf body (givesKind functionRow) (derived block ∷ []))
   unfolding nth productions
   body-some h = body-at ∙ same body (whether-true 1 2 h)
 
-  pub body-none : eqb k leftBrace ≡ false → choice productions v e body j ≡ one (rule body (says headerRow) [])
+  pub body-none : eqb k leftBrace ≡ false → choice productions v e body j ≡ selected (ruleOf body (givesKind headerRow) [])
   unfolding nth productions
   body-none h = body-at ∙ same body (whether-false 1 2 h)
 
@@ -963,12 +965,12 @@ module _ (v : View) (e : Names) (j : ℕ) (low : v .class e j < classes) where
   loopOrComplement-at = plain loopOrComplement loopOrComplementNumber loopOrComplement-numbers
 
   pub loopOrComplement-some : eqb k leftBrace ≡ true
-      → choice productions v e loopOrComplement j ≡ one (rule loopOrComplement (says whileRow) (part block ∷ []))
+      → choice productions v e loopOrComplement j ≡ selected (ruleOf loopOrComplement (givesKind whileRow) (derived block ∷ []))
   unfolding nth productions
   loopOrComplement-some h = loopOrComplement-at ∙ same loopOrComplement (whether-true 1 2 h)
 
   pub loopOrComplement-none : eqb k leftBrace ≡ false
-      → choice productions v e loopOrComplement j ≡ one (rule loopOrComplement (says complementRow) (unless aBrace ∷ []))
+      → choice productions v e loopOrComplement j ≡ selected (ruleOf loopOrComplement (givesKind complementRow) (unless aBrace ∷ []))
   unfolding nth productions
   loopOrComplement-none h = loopOrComplement-at ∙ same loopOrComplement (whether-false 1 2 h)
 
@@ -979,7 +981,7 @@ module _ (v : View) (e : Names) (j : ℕ) (low : v .class e j < classes) where
   typeParameters-at-yes = given opensNames true typeParameters typeParametersNumberYes typeParameters-numbers-yes
 
   pub typeParameters-some : v .holds opensNames j ≡ true → k ≡ leftBracket
-      → choice productions v e typeParameters j ≡ one (rule typeParameters noRow (when (query opensNames) ∷ part nameList ∷ []))
+      → choice productions v e typeParameters j ≡ selected (ruleOf typeParameters noRow (when (query opensNames) ∷ derived nameList ∷ []))
   unfolding nth productions
   typeParameters-some answer h = typeParameters-at-yes answer
       ∙ same typeParameters (whether-true 1 0 (ap (λ (n : ℕ). eqb n leftBracket) h))
@@ -989,7 +991,7 @@ module _ (v : View) (e : Names) (j : ℕ) (low : v .class e j < classes) where
   typeParameters-at-no = given opensNames false typeParameters typeParametersNumberNo typeParameters-numbers-no
 
   pub typeParameters-none : v .holds opensNames j ≡ false
-      → choice productions v e typeParameters j ≡ one (rule typeParameters noRow (unless (query opensNames) ∷ []))
+      → choice productions v e typeParameters j ≡ selected (ruleOf typeParameters noRow (unless (query opensNames) ∷ []))
   unfolding nth productions
   typeParameters-none answer = typeParameters-at-no answer
 
@@ -998,7 +1000,8 @@ module _ (v : View) (e : Names) (j : ℕ) (low : v .class e j < classes) where
   structParameters-at-yes = given opensStructNames true structParameters structParametersNumberYes structParameters-numbers-yes
 
   pub structParameters-some : v .holds opensStructNames j ≡ true → k ≡ leftBracket
-      → choice productions v e structParameters j ≡ one (rule structParameters noRow (when (query opensStructNames) ∷ part nameList ∷ []))
+      → choice productions v e structParameters j ≡
+      selected (ruleOf structParameters noRow (when (query opensStructNames) ∷ derived nameList ∷ []))
   unfolding nth productions
   structParameters-some answer h = structParameters-at-yes answer
       ∙ same structParameters (whether-true 1 0 (ap (λ (n : ℕ). eqb n leftBracket) h))
@@ -1008,7 +1011,7 @@ module _ (v : View) (e : Names) (j : ℕ) (low : v .class e j < classes) where
   structParameters-at-no = given opensStructNames false structParameters structParametersNumberNo structParameters-numbers-no
 
   pub structParameters-none : v .holds opensStructNames j ≡ false
-      → choice productions v e structParameters j ≡ one (rule structParameters noRow (unless (query opensStructNames) ∷ []))
+      → choice productions v e structParameters j ≡ selected (ruleOf structParameters noRow (unless (query opensStructNames) ∷ []))
   unfolding nth productions
   structParameters-none answer = structParameters-at-no answer
 
@@ -1017,7 +1020,7 @@ module _ (v : View) (e : Names) (j : ℕ) (low : v .class e j < classes) where
   typeArguments-at-yes = given opensWords true typeArguments typeArgumentsNumberYes typeArguments-numbers-yes
 
   pub typeArguments-some : v .holds opensWords j ≡ true → k ≡ leftBracket
-      → choice productions v e typeArguments j ≡ one (rule typeArguments noRow (when (query opensWords) ∷ part wordList ∷ []))
+      → choice productions v e typeArguments j ≡ selected (ruleOf typeArguments noRow (when (query opensWords) ∷ derived wordList ∷ []))
   unfolding nth productions
   typeArguments-some answer h = typeArguments-at-yes answer ∙ same typeArguments (whether-true 1 0 (ap (λ (n : ℕ). eqb n leftBracket) h))
 
@@ -1026,7 +1029,7 @@ module _ (v : View) (e : Names) (j : ℕ) (low : v .class e j < classes) where
   typeArguments-at-no = given opensWords false typeArguments typeArgumentsNumberNo typeArguments-numbers-no
 
   pub typeArguments-none : v .holds opensWords j ≡ false
-      → choice productions v e typeArguments j ≡ one (rule typeArguments noRow (unless (query opensWords) ∷ []))
+      → choice productions v e typeArguments j ≡ selected (ruleOf typeArguments noRow (unless (query opensWords) ∷ []))
   unfolding nth productions
   typeArguments-none answer = typeArguments-at-no answer
 
@@ -1035,7 +1038,7 @@ module _ (v : View) (e : Names) (j : ℕ) (low : v .class e j < classes) where
   selector-at-yes = given zeroOrOne true selector selectorNumberYes selector-numbers-yes
 
   pub selector-some : v .holds zeroOrOne j ≡ true → k ≡ int
-      → choice productions v e selector j ≡ one (rule selector noRow (when (query zeroOrOne) ∷ part literal ∷ []))
+      → choice productions v e selector j ≡ selected (ruleOf selector noRow (when (query zeroOrOne) ∷ derived literal ∷ []))
   unfolding nth productions among or
   selector-some answer h = selector-at-yes answer ∙ same selector (whether-true 1 0 (ap (λ (n : ℕ). among literals n) h))
 
@@ -1044,7 +1047,7 @@ module _ (v : View) (e : Names) (j : ℕ) (low : v .class e j < classes) where
   selector-at-no = given zeroOrOne false selector selectorNumberNo selector-numbers-no
 
   pub selector-none : v .holds zeroOrOne j ≡ false
-      → choice productions v e selector j ≡ one (rule selector noRow (unless (query zeroOrOne) ∷ []))
+      → choice productions v e selector j ≡ selected (ruleOf selector noRow (unless (query zeroOrOne) ∷ []))
   unfolding nth productions
   selector-none answer = selector-at-no answer
 
@@ -1054,7 +1057,8 @@ module _ (v : View) (e : Names) (j : ℕ) (low : v .class e j < classes) where
 
   pub tildeStatement-foreach : v .holds twoNames j ≡ true → k ≡ ident
       → choice productions v e tildeStatement j ≡
-      one (rule tildeStatement (says foreachRow) (when (query twoNames) ∷ token name ∷ part expression ∷ part block ∷ []))
+      selected (ruleOf tildeStatement (givesKind foreachRow) (when (query twoNames) ∷ token name ∷ derived expression ∷ derived block ∷
+      []))
   unfolding nth productions
   tildeStatement-foreach answer h = tildeStatement-at-yes answer ∙ same tildeStatement (whether-true 1 0 (ap (λ (n : ℕ). eqb n ident) h))
 
@@ -1064,7 +1068,7 @@ module _ (v : View) (e : Names) (j : ℕ) (low : v .class e j < classes) where
 
   pub tildeStatement-other : {a : ℕ} → v .holds twoNames j ≡ false → kindAlternative expression k ≡ suc a
       → choice productions v e tildeStatement j ≡
-      one (rule tildeStatement noRow (unless (query twoNames) ∷ part expression ∷ part loopOrComplement ∷ []))
+      selected (ruleOf tildeStatement noRow (unless (query twoNames) ∷ derived expression ∷ derived loopOrComplement ∷ []))
   unfolding nth productions
   tildeStatement-other answer h = tildeStatement-at-no answer ∙ same tildeStatement (whether-some 2 0 h)
 
@@ -1079,7 +1083,8 @@ module _ (v : View) (e : Names) (j : ℕ) (low : v .class e j < classes) where
 
   pub tryOrClosure-closure : {a : ℕ} → v .holds opensClosure j ≡ true → kindAlternative type k ≡ suc a
       → choice productions v e tryOrClosure j ≡
-      one (rule tryOrClosure (says closureRow) (when (query opensClosure) ∷ part parameters ∷ only arrow ∷ part type ∷ part block ∷ []))
+      selected (ruleOf tryOrClosure (givesKind closureRow) (when (query opensClosure) ∷ derived parameters ∷ kindToken arrow ∷
+      derived type ∷ derived block ∷ []))
   unfolding nth productions
   tryOrClosure-closure answer h = tryOrClosure-at-yes answer ∙ same tryOrClosure (whether-some 2 (whether (eqb k arrow) 2 0) h)
 
@@ -1089,7 +1094,8 @@ module _ (v : View) (e : Names) (j : ℕ) (low : v .class e j < classes) where
 
   pub tryOrClosure-closure-arrow : v .holds opensClosure j ≡ true → k ≡ arrow
       → choice productions v e tryOrClosure j ≡
-      one (rule tryOrClosure (says closureRow) (when (query opensClosure) ∷ part parameters ∷ only arrow ∷ part type ∷ part block ∷ []))
+      selected (ruleOf tryOrClosure (givesKind closureRow) (when (query opensClosure) ∷ derived parameters ∷ kindToken arrow ∷
+      derived type ∷ derived block ∷ []))
   unfolding nth productions
   tryOrClosure-closure-arrow answer h = tryOrClosure-at-yes-again answer
       ∙ same tryOrClosure (whether-true 2 (whetherSome (kindAlternative type k) 2 0) (ap (λ (n : ℕ). eqb n arrow) h))
@@ -1099,7 +1105,8 @@ module _ (v : View) (e : Names) (j : ℕ) (low : v .class e j < classes) where
   tryOrClosure-at-no = given opensClosure false tryOrClosure tryOrClosureNumberNo tryOrClosure-numbers-no
 
   pub tryOrClosure-try : {a : ℕ} → v .holds opensClosure j ≡ false → kindAlternative expression k ≡ suc a
-      → choice productions v e tryOrClosure j ≡ one (rule tryOrClosure (says tryRow) (unless (query opensClosure) ∷ part expression ∷ []))
+      → choice productions v e tryOrClosure j ≡
+      selected (ruleOf tryOrClosure (givesKind tryRow) (unless (query opensClosure) ∷ derived expression ∷ []))
   unfolding nth productions
   tryOrClosure-try answer h = tryOrClosure-at-no answer ∙ same tryOrClosure (whether-some 1 0 h)
 
@@ -1114,15 +1121,16 @@ module _ (v : View) (e : Names) (j : ℕ) (low : v .class e j < classes) where
 
   pub definition-struct : v .holds opensStruct j ≡ true → k ≡ ident
       → choice productions v e definition j ≡
-      one (rule definition (says structRow) (when (query opensStruct) ∷ token name ∷ part structParameters ∷ only leftBrace ∷
-      part fields ∷ only rightBrace ∷ []))
+      selected (ruleOf definition (givesKind structRow) (when (query opensStruct) ∷ token name ∷ derived structParameters ∷
+      kindToken leftBrace ∷ derived fields ∷ kindToken rightBrace ∷ []))
   unfolding nth productions
   definition-struct answer h = definition-at-yes answer
       ∙ same definition (whether-true 1 (whether (eqb k bar) 2 0) (ap (λ (n : ℕ). eqb n ident) h))
 
   definition-enum-true : v .holds opensStruct j ≡ true → k ≡ bar
       → choice productions v e definition j ≡
-      one (rule definition (says enumRow) (only bar ∷ token name ∷ only leftBrace ∷ part variants ∷ only rightBrace ∷ []))
+      selected (ruleOf definition (givesKind enumRow) (kindToken bar ∷ token name ∷ kindToken leftBrace ∷ derived variants ∷
+      kindToken rightBrace ∷ []))
   unfolding nth productions
   definition-enum-true answer h = definition-at-yes answer
       ∙ same definition (whether-false 1 (whether (eqb k bar) 2 0) (ap (λ (n : ℕ). eqb n ident) h)
@@ -1134,7 +1142,8 @@ module _ (v : View) (e : Names) (j : ℕ) (low : v .class e j < classes) where
 
   pub definition-constant : {a : ℕ} → v .holds opensStruct j ≡ false → kindAlternative type k ≡ suc a
       → choice productions v e definition j ≡
-      one (rule definition (says constantRow) (unless (query opensStruct) ∷ part mutable ∷ part type ∷ token name ∷ part literal ∷ []))
+      selected (ruleOf definition (givesKind constantRow) (unless (query opensStruct) ∷ derived mutable ∷ derived type ∷ token name ∷
+      derived literal ∷ []))
   unfolding nth productions
   definition-constant answer h = definition-at-no answer
       ∙ same definition (whether-some 3 (whether (eqb k tilde) 3 (whether (eqb k bar) 2 0)) h)
@@ -1152,7 +1161,8 @@ module _ (v : View) (e : Names) (j : ℕ) (low : v .class e j < classes) where
 
   pub definition-constant-tilde : v .holds opensStruct j ≡ false → k ≡ tilde
       → choice productions v e definition j ≡
-      one (rule definition (says constantRow) (unless (query opensStruct) ∷ part mutable ∷ part type ∷ token name ∷ part literal ∷ []))
+      selected (ruleOf definition (givesKind constantRow) (unless (query opensStruct) ∷ derived mutable ∷ derived type ∷ token name ∷
+      derived literal ∷ []))
   unfolding nth productions
   definition-constant-tilde answer h = definition-at-no-again answer
       ∙ same definition (whether-true 3 (whether (eqb k bar) 2 (whetherSome (kindAlternative type k) 3 0)) (ap (λ
@@ -1160,7 +1170,8 @@ module _ (v : View) (e : Names) (j : ℕ) (low : v .class e j < classes) where
 
   definition-enum-false : v .holds opensStruct j ≡ false → k ≡ bar
       → choice productions v e definition j ≡
-      one (rule definition (says enumRow) (only bar ∷ token name ∷ only leftBrace ∷ part variants ∷ only rightBrace ∷ []))
+      selected (ruleOf definition (givesKind enumRow) (kindToken bar ∷ token name ∷ kindToken leftBrace ∷ derived variants ∷
+      kindToken rightBrace ∷ []))
   unfolding nth productions
   definition-enum-false answer h = definition-at-no-again answer
       ∙ same definition (whether-false 3 (whether (eqb k bar) 2 (whetherSome (kindAlternative type k) 3 0)) (ap (λ
@@ -1168,13 +1179,15 @@ module _ (v : View) (e : Names) (j : ℕ) (low : v .class e j < classes) where
 
   definition-enum-by : (b : Bool) → v .holds opensStruct j ≡ b → k ≡ bar
       → choice productions v e definition j ≡
-      one (rule definition (says enumRow) (only bar ∷ token name ∷ only leftBrace ∷ part variants ∷ only rightBrace ∷ []))
+      selected (ruleOf definition (givesKind enumRow) (kindToken bar ∷ token name ∷ kindToken leftBrace ∷ derived variants ∷
+      kindToken rightBrace ∷ []))
   definition-enum-by true = definition-enum-true
   definition-enum-by false = definition-enum-false
 
   pub definition-enum : k ≡ bar
       → choice productions v e definition j ≡
-      one (rule definition (says enumRow) (only bar ∷ token name ∷ only leftBrace ∷ part variants ∷ only rightBrace ∷ []))
+      selected (ruleOf definition (givesKind enumRow) (kindToken bar ∷ token name ∷ kindToken leftBrace ∷ derived variants ∷
+      kindToken rightBrace ∷ []))
   definition-enum = definition-enum-by (v .holds opensStruct j) refl
 
   -- what the token decides
@@ -1184,7 +1197,7 @@ module _ (v : View) (e : Names) (j : ℕ) (low : v .class e j < classes) where
 
   pub interfaceRest-trait : k ≡ leftBrace
       → choice productions v e interfaceRest j ≡
-      one (rule interfaceRest (says traitRow) (only leftBrace ∷ part methods ∷ only rightBrace ∷ []))
+      selected (ruleOf interfaceRest (givesKind traitRow) (kindToken leftBrace ∷ derived methods ∷ kindToken rightBrace ∷ []))
   unfolding nth productions
   interfaceRest-trait h = interfaceRest-at
       ∙ same interfaceRest (whether-true 1 (whetherSome (kindAlternative type k) 2 0) (ap (λ (n : ℕ). eqb n leftBrace) h))
@@ -1200,7 +1213,8 @@ module _ (v : View) (e : Names) (j : ℕ) (low : v .class e j < classes) where
 
   pub interfaceRest-impl : {a : ℕ} → kindAlternative type k ≡ suc a
       → choice productions v e interfaceRest j ≡
-      one (rule interfaceRest (says implRow) (part type ∷ only leftBrace ∷ part functions ∷ only rightBrace ∷ []))
+      selected (ruleOf interfaceRest (givesKind implRow) (derived type ∷ kindToken leftBrace ∷ derived functions ∷ kindToken rightBrace ∷
+      []))
   unfolding nth productions
   interfaceRest-impl h = interfaceRest-at-again ∙ same interfaceRest (whether-some 2 (whether (eqb k leftBrace) 1 0) h)
 
@@ -1208,12 +1222,13 @@ module _ (v : View) (e : Names) (j : ℕ) (low : v .class e j < classes) where
   binding-at = plain binding bindingNumber binding-numbers
 
   pub binding-named : eqb c ident ≡ true
-      → choice productions v e binding j ≡ one (rule binding noRow (when plainName ∷ token name ∷ part expression ∷ []))
+      → choice productions v e binding j ≡ selected (ruleOf binding noRow (when plainName ∷ token name ∷ derived expression ∷ []))
   unfolding nth productions
   binding-named h = binding-at ∙ same binding (whether-true 2 (whetherSome (kindAlternative type k) 1 0) h)
 
   pub binding-typed : {a : ℕ} → eqb c ident ≡ false → kindAlternative type k ≡ suc a
-      → choice productions v e binding j ≡ one (rule binding noRow (unless plainName ∷ part type ∷ token name ∷ part expression ∷ []))
+      → choice productions v e binding j ≡
+      selected (ruleOf binding noRow (unless plainName ∷ derived type ∷ token name ∷ derived expression ∷ []))
   unfolding nth productions
   binding-typed h h2 = binding-at ∙ same binding (whether-false 2 (whetherSome (kindAlternative type k) 1 0) h ∙ whether-some 1 0 h2)
 
@@ -1225,13 +1240,14 @@ module _ (v : View) (e : Names) (j : ℕ) (low : v .class e j < classes) where
   assignment-at = plain assignment assignmentNumber assignment-numbers
 
   pub assignment-setName : k ≡ ident
-      → choice productions v e assignment j ≡ one (rule assignment (says setNameRow) (token name ∷ part expression ∷ []))
+      → choice productions v e assignment j ≡ selected (ruleOf assignment (givesKind setNameRow) (token name ∷ derived expression ∷ []))
   unfolding nth productions
   assignment-setName h = assignment-at ∙ same assignment (whether-true 1 (whether (eqb k dot) 2 0) (ap (λ (n : ℕ). eqb n ident) h))
 
   pub assignment-setElement : k ≡ dot
       → choice productions v e assignment j ≡
-      one (rule assignment (says setElementRow) (only dot ∷ part expression ∷ part expression ∷ part expression ∷ []))
+      selected (ruleOf assignment (givesKind setElementRow) (kindToken dot ∷ derived expression ∷ derived expression ∷
+      derived expression ∷ []))
   unfolding nth productions
   assignment-setElement h = assignment-at ∙ same assignment (whether-false 1 (whether (eqb k dot) 2 0) (ap (λ (n : ℕ). eqb n ident) h)
       ∙ whether-true 2 0 (ap (λ (n : ℕ). eqb n dot) h))
@@ -1244,13 +1260,14 @@ module _ (v : View) (e : Names) (j : ℕ) (low : v .class e j < classes) where
   castRest-at = plain castRest castRestNumber castRest-numbers
 
   pub castRest-pointer : k ≡ star
-      → choice productions v e castRest j ≡ one (rule castRest noRow (when aStar ∷ part type ∷ part expression ∷ part selector ∷ []))
+      → choice productions v e castRest j ≡
+      selected (ruleOf castRest noRow (when aStar ∷ derived type ∷ derived expression ∷ derived selector ∷ []))
   unfolding nth productions
   castRest-pointer h = castRest-at
       ∙ same castRest (whether-true 1 (whetherSome (kindAlternative type k) 2 0) (ap (λ (n : ℕ). eqb n star) h))
 
   pub castRest-other : {a : ℕ} → eqb k star ≡ false → kindAlternative type k ≡ suc a
-      → choice productions v e castRest j ≡ one (rule castRest noRow (unless aStar ∷ part type ∷ part expression ∷ []))
+      → choice productions v e castRest j ≡ selected (ruleOf castRest noRow (unless aStar ∷ derived type ∷ derived expression ∷ []))
   unfolding nth productions
   castRest-other h h2 = castRest-at ∙ same castRest (whether-false 1 (whetherSome (kindAlternative type k) 2 0) h ∙ whether-some 2 0 h2)
 
@@ -1263,14 +1280,15 @@ module _ (v : View) (e : Names) (j : ℕ) (low : v .class e j < classes) where
 
   pub parenthesized-functionType : k ≡ at
       → choice productions v e parenthesized j ≡
-      one (rule parenthesized (says functionTypeRow) (only at ∷ part type ∷ part types ∷ only rightParen ∷ []))
+      selected (ruleOf parenthesized (givesKind functionTypeRow) (kindToken at ∷ derived type ∷ derived types ∷ kindToken rightParen ∷
+      []))
   unfolding nth productions
   parenthesized-functionType h = parenthesized-at
       ∙ same parenthesized (whether-true 1 (whether (eqb k ident) 2 0) (ap (λ (n : ℕ). eqb n at) h))
 
   pub parenthesized-instance : k ≡ ident
       → choice productions v e parenthesized j ≡
-      one (rule parenthesized (says instanceRow) (token name ∷ token word ∷ part moreWords ∷ only rightParen ∷ []))
+      selected (ruleOf parenthesized (givesKind instanceRow) (token name ∷ token anyWord ∷ derived moreWords ∷ kindToken rightParen ∷ []))
   unfolding nth productions
   parenthesized-instance h = parenthesized-at
       ∙ same parenthesized (whether-false 1 (whether (eqb k ident) 2 0) (ap (λ (n : ℕ). eqb n at) h)
@@ -1285,7 +1303,7 @@ module _ (v : View) (e : Names) (j : ℕ) (low : v .class e j < classes) where
   program-at : choice productions v e program j ≡ nth program (programNumber kindAlternative c) productions
   program-at = plain program programNumber program-numbers
 
-  pub program-one : choice productions v e program j ≡ one (rule program (row programRow) (part declarations ∷ []))
+  pub program-one : choice productions v e program j ≡ selected (ruleOf program (givesRow programRow) (derived declarations ∷ []))
   unfolding nth productions
   program-one = program-at
 
@@ -1293,7 +1311,8 @@ module _ (v : View) (e : Names) (j : ℕ) (low : v .class e j < classes) where
   block-at = plain block blockNumber block-numbers
 
   pub block-one : k ≡ leftBrace
-      → choice productions v e block j ≡ one (rule block (row blockRow) (only leftBrace ∷ part statements ∷ only rightBrace ∷ []))
+      → choice productions v e block j ≡
+      selected (ruleOf block (givesRow blockRow) (kindToken leftBrace ∷ derived statements ∷ kindToken rightBrace ∷ []))
   unfolding nth productions
   block-one h = block-at ∙ same block (whether-true 1 0 (ap (λ (n : ℕ). eqb n leftBrace) h))
 
@@ -1305,7 +1324,7 @@ module _ (v : View) (e : Names) (j : ℕ) (low : v .class e j < classes) where
   literal-at = plain literal literalNumber literal-numbers
 
   pub literal-one : among literals k ≡ true
-      → choice productions v e literal j ≡ one (rule literal (row literalRow) (token literals ∷ []))
+      → choice productions v e literal j ≡ selected (ruleOf literal (givesRow literalRow) (token literals ∷ []))
   unfolding nth productions
   literal-one h = literal-at ∙ same literal (whether-true 1 0 h)
 
@@ -1317,128 +1336,92 @@ module _ (v : View) (e : Names) (j : ℕ) (low : v .class e j < classes) where
   payload-at = plain payload payloadNumber payload-numbers
 
   pub payload-one : among (ident ∷ int ∷ []) k ≡ true
-      → choice productions v e payload j ≡ one (rule payload (row payloadRow) (token payloadToken ∷ []))
+      → choice productions v e payload j ≡ selected (ruleOf payload (givesRow payloadRow) (token payloadToken ∷ []))
   unfolding nth productions
   payload-one h = payload-at ∙ same payload (whether-true 1 0 h)
-
-  pub payload-none : among (ident ∷ int ∷ []) k ≡ false → choice productions v e payload j ≡ none
-  unfolding nth productions
-  payload-none h = payload-at ∙ same payload (whether-false 1 0 h)
 
   parameter-at : choice productions v e parameter j ≡ nth parameter (parameterNumber kindAlternative c) productions
   parameter-at = plain parameter parameterNumber parameter-numbers
 
   pub parameter-one : {a : ℕ} → kindAlternative type k ≡ suc a
-      → choice productions v e parameter j ≡ one (rule parameter (row parameterRow) (part type ∷ token name ∷ []))
+      → choice productions v e parameter j ≡ selected (ruleOf parameter (givesRow parameterRow) (derived type ∷ token name ∷ []))
   unfolding nth productions
   parameter-one h = parameter-at ∙ same parameter (whether-some 1 0 h)
-
-  pub parameter-none : kindAlternative type k ≡ 0 → choice productions v e parameter j ≡ none
-  unfolding nth productions
-  parameter-none h = parameter-at ∙ same parameter (whether-none 1 0 h)
 
   field-at : choice productions v e field j ≡ nth field (fieldNumber kindAlternative c) productions
   field-at = plain field fieldNumber field-numbers
 
   pub field-one : {a : ℕ} → kindAlternative type k ≡ suc a
-      → choice productions v e field j ≡ one (rule field (row parameterRow) (part type ∷ part fieldName ∷ []))
+      → choice productions v e field j ≡ selected (ruleOf field (givesRow parameterRow) (derived type ∷ derived fieldName ∷ []))
   unfolding nth productions
   field-one h = field-at ∙ same field (whether-some 1 0 h)
-
-  pub field-none : kindAlternative type k ≡ 0 → choice productions v e field j ≡ none
-  unfolding nth productions
-  field-none h = field-at ∙ same field (whether-none 1 0 h)
 
   arm-at : choice productions v e arm j ≡ nth arm (armNumber kindAlternative c) productions
   arm-at = plain arm armNumber arm-numbers
 
   pub arm-one : among (ident ∷ boolean ∷ []) k ≡ true
       → choice productions v e arm j ≡
-      one (rule arm (row armRow) (token declaredWord ∷ part payloads3 ∷ only arrow ∷ part expression ∷ []))
+      selected (ruleOf arm (givesRow armRow) (token declaredWord ∷ derived payloads3 ∷ kindToken arrow ∷ derived expression ∷ []))
   unfolding nth productions
   arm-one h = arm-at ∙ same arm (whether-true 1 0 h)
-
-  pub arm-none : among (ident ∷ boolean ∷ []) k ≡ false → choice productions v e arm j ≡ none
-  unfolding nth productions
-  arm-none h = arm-at ∙ same arm (whether-false 1 0 h)
 
   function-at : choice productions v e function j ≡ nth function (functionNumber kindAlternative c) productions
   function-at = plain function functionNumber function-numbers
 
   pub function-one : k ≡ at
       → choice productions v e function j ≡
-      one (rule function (row functionRow) (only at ∷ token name ∷ part typeParameters ∷ part parameters ∷ only arrow ∷ part type ∷
-      part block ∷ []))
+      selected (ruleOf function (givesRow functionRow) (kindToken at ∷ token name ∷ derived typeParameters ∷ derived parameters ∷
+      kindToken arrow ∷ derived type ∷ derived block ∷ []))
   unfolding nth productions
   function-one h = function-at ∙ same function (whether-true 1 0 (ap (λ (n : ℕ). eqb n at) h))
-
-  pub function-none : eqb k at ≡ false → choice productions v e function j ≡ none
-  unfolding nth productions
-  function-none h = function-at ∙ same function (whether-false 1 0 h)
 
   method-at : choice productions v e method j ≡ nth method (methodNumber kindAlternative c) productions
   method-at = plain method methodNumber method-numbers
 
   pub method-one : k ≡ at
       → choice productions v e method j ≡
-      one (rule method rowOf (only at ∷ token name ∷ part typeParameters ∷ part parameters ∷ only arrow ∷ part type ∷ part body ∷ []))
+      selected (ruleOf method rowOf (kindToken at ∷ token name ∷ derived typeParameters ∷ derived parameters ∷ kindToken arrow ∷
+      derived type ∷ derived body ∷ []))
   unfolding nth productions
   method-one h = method-at ∙ same method (whether-true 1 0 (ap (λ (n : ℕ). eqb n at) h))
-
-  pub method-none : eqb k at ≡ false → choice productions v e method j ≡ none
-  unfolding nth productions
-  method-none h = method-at ∙ same method (whether-false 1 0 h)
 
   variant-at : choice productions v e variant j ≡ nth variant (variantNumber kindAlternative c) productions
   variant-at = plain variant variantNumber variant-numbers
 
   pub variant-one : eqb c ident ≡ true
-      → choice productions v e variant j ≡ one (rule variant (row variantRow) (when plainName ∷ token name ∷ part payloadTypes ∷ []))
+      → choice productions v e variant j ≡
+      selected (ruleOf variant (givesRow variantRow) (when plainName ∷ token name ∷ derived payloadTypes ∷ []))
   unfolding nth productions
   variant-one h = variant-at ∙ same variant (whether-true 1 0 h)
-
-  pub variant-none : eqb c ident ≡ false → choice productions v e variant j ≡ none
-  unfolding nth productions
-  variant-none h = variant-at ∙ same variant (whether-false 1 0 h)
 
   nameList-at : choice productions v e nameList j ≡ nth nameList (nameListNumber kindAlternative c) productions
   nameList-at = plain nameList nameListNumber nameList-numbers
 
   pub nameList-one : k ≡ leftBracket
       → choice productions v e nameList j ≡
-      one (rule nameList (row listRow) (only leftBracket ∷ token declaredWord ∷ part moreNames ∷ only rightBracket ∷ []))
+      selected (ruleOf nameList (givesRow listRow) (kindToken leftBracket ∷ token declaredWord ∷ derived moreNames ∷
+      kindToken rightBracket ∷ []))
   unfolding nth productions
   nameList-one h = nameList-at ∙ same nameList (whether-true 1 0 (ap (λ (n : ℕ). eqb n leftBracket) h))
-
-  pub nameList-none : eqb k leftBracket ≡ false → choice productions v e nameList j ≡ none
-  unfolding nth productions
-  nameList-none h = nameList-at ∙ same nameList (whether-false 1 0 h)
 
   wordList-at : choice productions v e wordList j ≡ nth wordList (wordListNumber kindAlternative c) productions
   wordList-at = plain wordList wordListNumber wordList-numbers
 
   pub wordList-one : k ≡ leftBracket
       → choice productions v e wordList j ≡
-      one (rule wordList (row listRow) (only leftBracket ∷ token word ∷ part moreWords ∷ only rightBracket ∷ []))
+      selected (ruleOf wordList (givesRow listRow) (kindToken leftBracket ∷ token anyWord ∷ derived moreWords ∷ kindToken rightBracket ∷
+      []))
   unfolding nth productions
   wordList-one h = wordList-at ∙ same wordList (whether-true 1 0 (ap (λ (n : ℕ). eqb n leftBracket) h))
-
-  pub wordList-none : eqb k leftBracket ≡ false → choice productions v e wordList j ≡ none
-  unfolding nth productions
-  wordList-none h = wordList-at ∙ same wordList (whether-false 1 0 h)
 
   interface-at : choice productions v e interface j ≡ nth interface (interfaceNumber kindAlternative c) productions
   interface-at = plain interface interfaceNumber interface-numbers
 
   pub interface-one : k ≡ percent
       → choice productions v e interface j ≡
-      one (rule interface rowOf (only percent ∷ token name ∷ part typeParameters ∷ part interfaceRest ∷ []))
+      selected (ruleOf interface rowOf (kindToken percent ∷ token name ∷ derived typeParameters ∷ derived interfaceRest ∷ []))
   unfolding nth productions
   interface-one h = interface-at ∙ same interface (whether-true 1 0 (ap (λ (n : ℕ). eqb n percent) h))
-
-  pub interface-none : eqb k percent ≡ false → choice productions v e interface j ≡ none
-  unfolding nth productions
-  interface-none h = interface-at ∙ same interface (whether-false 1 0 h)
 
   -- what is looked up
 

@@ -7,8 +7,8 @@ use mathlib.Core.Bool.{Bool, true, false}
 use mathlib.Core.List.{List, [], _∷_}
 use lib.Dec.{eqb, leb, ltb}
 use Rattle.lexer.specs.Tests.{and, or, between, pick, among}
-use Rattle.grammar.specs.Grammars.{endOfTokens, next, query, Symbol, token, part, condition, Makes, row, rowOf, says, noRow}
-use Rattle.grammar.specs.Grammars.{Production, agrees}
+use Rattle.grammar.specs.Grammars.{endOfTokens, next, query, Symbol, token, derived, condition, Makes, givesRow, rowOf, givesKind}
+use Rattle.grammar.specs.Grammars.{noRow, Production, agrees}
 use Rattle.grammar.specs.Rows.{levels}
 use Rattle.grammar.specs.Reading.{breadth, whole}
 use Rattle.grammar.specs.First.{skips, starts, empty, first, canBegin, canSkip}
@@ -54,7 +54,7 @@ emptyClosed g c p = implies (canSkip g c p) (empty g c (p .left))
 unfoldable pub flows : List Production → Hints → ℕ → Bool → List Symbol → Bool
 flows g h c after [] = true
 flows g h c after (token cs ∷ ss) = flows g h c after ss
-flows g h c after (part x ∷ ss) = and (implies (may g c after ss) (h .follow x c)) (flows g h c after ss)
+flows g h c after (derived x ∷ ss) = and (implies (may g c after ss) (h .follow x c)) (flows g h c after ss)
 flows g h c after (condition b q ∷ ss) = flows g h c after ss
 
 unfoldable pub followClosed : List Production → Hints → ℕ → Production → Bool
@@ -68,7 +68,7 @@ live g h c p = or (canBegin g c p) (and (canSkip g c p) (h .follow (p .left) c))
 unfoldable pub asks : Bool → ℕ → List Symbol → Bool
 asks b q [] = false
 asks b q (token cs ∷ ss) = false
-asks b q (part x ∷ ss) = false
+asks b q (derived x ∷ ss) = false
 asks b q (condition a (next cs) ∷ ss) = asks b q ss
 asks b q (condition a (query r) ∷ ss) = or (and (eqb q r) (agrees b a)) (asks b q ss)
 
@@ -76,7 +76,7 @@ asks b q (condition a (query r) ∷ ss) = or (and (eqb q r) (agrees b a)) (asks 
 unfoldable pub opposed : List Symbol → List Symbol → Bool
 opposed [] ts = false
 opposed (token cs ∷ ss) ts = false
-opposed (part x ∷ ss) ts = false
+opposed (derived x ∷ ss) ts = false
 opposed (condition b (next cs) ∷ ss) ts = opposed ss ts
 opposed (condition b (query q) ∷ ss) ts = or (asks (agrees b false) q ts) (opposed ss ts)
 
@@ -103,21 +103,21 @@ pub record Closed (g : List Production) (h : Hints) (bound : ℕ) : Type 0 where
 unfoldable pub noEnd : List Symbol → Bool
 noEnd [] = true
 noEnd (token cs ∷ ss) = and (agrees false (among cs endOfTokens)) (noEnd ss)
-noEnd (part x ∷ ss) = noEnd ss
+noEnd (derived x ∷ ss) = noEnd ss
 noEnd (condition b q ∷ ss) = noEnd ss
 
 -- symbols that may derive no token
 unfoldable pub vanishes : Hints → List Symbol → Bool
 vanishes h [] = true
 vanishes h (token cs ∷ ss) = false
-vanishes h (part x ∷ ss) = and (h .nullable x) (vanishes h ss)
+vanishes h (derived x ∷ ss) = and (h .nullable x) (vanishes h ss)
 vanishes h (condition b q ∷ ss) = vanishes h ss
 
 -- the fuel that symbols need before a token is taken
 unfoldable pub needs : Hints → List Symbol → ℕ
 needs h [] = 1
 needs h (token cs ∷ ss) = 1
-needs h (part x ∷ ss) = suc (max (h .weight x) (pick (h .nullable x) (needs h ss) 0))
+needs h (derived x ∷ ss) = suc (max (h .weight x) (pick (h .nullable x) (needs h ss) 0))
 needs h (condition b q ∷ ss) = suc (needs h ss)
 
 -- ... and after any of them at most w
@@ -135,13 +135,13 @@ falls h w p =
 unfoldable pub fewerOf : Hints → List Symbol → ℕ
 fewerOf h [] = 0
 fewerOf h (token cs ∷ ss) = 2 + fewerOf h ss
-fewerOf h (part x ∷ ss) = h .fewer x + fewerOf h ss
+fewerOf h (derived x ∷ ss) = h .fewer x + fewerOf h ss
 fewerOf h (condition b q ∷ ss) = fewerOf h ss
 
 unfoldable pub moreOf : Hints → List Symbol → ℕ
 moreOf h [] = 0
 moreOf h (token cs ∷ ss) = moreOf h ss
-moreOf h (part x ∷ ss) = h .more x + moreOf h ss
+moreOf h (derived x ∷ ss) = h .more x + moreOf h ss
 moreOf h (condition b q ∷ ss) = moreOf h ss
 
 unfoldable pub fewRows : Hints → Production → Bool
@@ -151,15 +151,15 @@ fewRows h p = leb (levels (p .makes) + h .fewer (p .left) + moreOf h (p .right))
 unfoldable pub voiced : Hints → List Symbol → Bool
 voiced h [] = false
 voiced h (token cs ∷ ss) = voiced h ss
-voiced h (part x ∷ ss) = or (h .speaks x) (voiced h ss)
+voiced h (derived x ∷ ss) = or (h .speaks x) (voiced h ss)
 voiced h (condition b q ∷ ss) = voiced h ss
 
 -- Given whether the nonterminal speaks and whether the symbols do: a kind that a production makes or says is from 1 to the last;
 -- where a part is to say it, a part speaks; and where the nonterminal speaks, a kind is said.
 unfoldable pub kindWithin : ℕ → Bool → Bool → Makes → Bool
-kindWithin last speaks voice (row kind) = and (between 1 last kind) (agrees false speaks)
+kindWithin last speaks voice (givesRow kind) = and (between 1 last kind) (agrees false speaks)
 kindWithin last speaks voice rowOf = and voice (agrees false speaks)
-kindWithin last speaks voice (says kind) = between 1 last kind
+kindWithin last speaks voice (givesKind kind) = between 1 last kind
 kindWithin last speaks voice noRow = implies speaks voice
 
 unfoldable pub knownKind : Hints → ℕ → Production → Bool
@@ -167,9 +167,9 @@ knownKind h last p = kindWithin last (h .speaks (p .left)) (voiced h (p .right))
 
 -- a row of this kind is made
 unfoldable pub makesRow : ℕ → Makes → Bool
-makesRow k (row kind) = eqb kind k
+makesRow k (givesRow kind) = eqb kind k
 makesRow k rowOf = false
-makesRow k (says kind) = false
+makesRow k (givesKind kind) = false
 makesRow k noRow = false
 
 -- a production of x makes a row of kind k
@@ -186,7 +186,7 @@ beforeEnd g x p =
 unfoldable pub without : ℕ → List Symbol → Bool
 without x [] = true
 without x (token cs ∷ ss) = without x ss
-without x (part y ∷ ss) = and (agrees false (eqb y x)) (without x ss)
+without x (derived y ∷ ss) = and (agrees false (eqb y x)) (without x ss)
 without x (condition b q ∷ ss) = without x ss
 
 -- all tests of a table whose start is x, where classes are below a bound

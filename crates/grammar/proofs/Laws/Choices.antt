@@ -9,10 +9,10 @@ use lib.Dec.{eqb}
 use borrow.Author.Tests.{eqb-true, eq-eqb}
 use Rattle.lexer.specs.Tests.{and, or, pick, among}
 use Rattle.lexer.proofs.Laws.Tests.{and-left, and-right, or-else, or-left, or-right}
-use Rattle.grammar.specs.Grammars.{next, query, Symbol, token, part, condition, Production, Names, View, agrees, asked, met}
+use Rattle.grammar.specs.Grammars.{next, query, Symbol, token, derived, condition, Production, Names, View, agrees, asked, met}
 use Rattle.grammar.specs.Derivations.{Has, here, there}
 use Rattle.grammar.specs.First.{canBegin, canSkip}
-use Rattle.grammar.specs.Reading.{ready, Choice, none, one, find, orElse, choice}
+use Rattle.grammar.specs.Reading.{ready, Choice, none, selected, find, otherwise, choice}
 use Rattle.grammar.proofs.Laws.Checks.{Hints, implies, every, live, asks, opposed, excludes, exclusive}
 use Rattle.grammar.proofs.Laws.CheckLaws.{and-both, implies-true, every-has}
 
@@ -25,8 +25,8 @@ pub record Found (ps : List Production) (x : ℕ) (test : Production → Bool) (
 module _ (v : View) (e : Names) (i x : ℕ) (test : Production → Bool) where
   found-by : (q : Production) (ps : List Production) (p : Production) (t : Bool)
       → and (eqb (q .left) x) (and (test q) (ready v e i (q .right))) ≡ t
-      → (find v e i x test ps ≡ one p → Found ps x test p)
-      → pick t (one q) (find v e i x test ps) ≡ one p → Found (q ∷ ps) x test p
+      → (find v e i x test ps ≡ selected p → Found ps x test p)
+      → pick t (selected q) (find v e i x test ps) ≡ selected p → Found (q ∷ ps) x test p
   found-by q ps p true m later f =
       let same : q ≡ p = cc in
       let left = and-left (eqb (q .left) x) (and (test q) (ready v e i (q .right))) m in
@@ -37,37 +37,37 @@ module _ (v : View) (e : Names) (i x : ℕ) (test : Production → Bool) where
       let l = later f in
       record { has = there (l .has); of = l .of; passes = l .passes }
 
-  pub found : (g : List Production) (p : Production) → find v e i x test g ≡ one p → Found g x test p
+  pub found : (g : List Production) (p : Production) → find v e i x test g ≡ selected p → Found g x test p
   unfolding find
   found [] p f = let z : _≡_ {A = ℕ} 0 1 = cc in absurd (omega arith)
   found (q ∷ ps) p f = found-by q ps p (and (eqb (q .left) x) (and (test q) (ready v e i (q .right)))) refl (found ps p) f
 
 -- a production that one or else the other choice gives
-or-found : {P : Type 0} (a b : Choice) (p : Production) → (a ≡ one p → P) → (b ≡ one p → P) → orElse a b ≡ one p → P
-unfolding orElse
+or-found : {P : Type 0} (a b : Choice) (p : Production) → (a ≡ selected p → P) → (b ≡ selected p → P) → otherwise a b ≡ selected p → P
+unfolding otherwise
 or-found none b p f k c = k c
-or-found (one q) b p f k c = f c
+or-found (selected q) b p f k c = f c
 
 -- the production that is chosen is one of the table, of the nonterminal that is asked for ..
-pub chosen : (g : List Production) (v : View) (e : Names) (x i : ℕ) (p : Production) → choice g v e x i ≡ one p
+pub chosen : (g : List Production) (v : View) (e : Names) (x i : ℕ) (p : Production) → choice g v e x i ≡ selected p
     → (Has g p) × (p .left ≡ x)
 unfolding choice
 chosen g v e x i p c =
     let class = v .class e i in
     or-found (find v e i x (canBegin g class) g) (find v e i x (canSkip g class) g) p
-    (λ (f : find v e i x (canBegin g class) g ≡ one p). let l = found v e i x (canBegin g class) g p f in (l .has, l .of))
-    (λ (f : find v e i x (canSkip g class) g ≡ one p). let l = found v e i x (canSkip g class) g p f in (l .has, l .of)) c
+    (λ (f : find v e i x (canBegin g class) g ≡ selected p). let l = found v e i x (canBegin g class) g p f in (l .has, l .of))
+    (λ (f : find v e i x (canSkip g class) g ≡ selected p). let l = found v e i x (canSkip g class) g p f in (l .has, l .of)) c
 
 -- .. and can begin with the token there, or derive none before it
-pub chosen-passes : (g : List Production) (v : View) (e : Names) (x i : ℕ) (p : Production) → choice g v e x i ≡ one p
+pub chosen-passes : (g : List Production) (v : View) (e : Names) (x i : ℕ) (p : Production) → choice g v e x i ≡ selected p
     → or (canBegin g (v .class e i) p) (canSkip g (v .class e i) p) ≡ true
 unfolding choice
 chosen-passes g v e x i p c =
     let class = v .class e i in
     or-found (find v e i x (canBegin g class) g) (find v e i x (canSkip g class) g) p
-    (λ (f : find v e i x (canBegin g class) g ≡ one p).
+    (λ (f : find v e i x (canBegin g class) g ≡ selected p).
     or-left (canBegin g class p) (canSkip g class p) (found v e i x (canBegin g class) g p f .passes))
-    (λ (f : find v e i x (canSkip g class) g ≡ one p).
+    (λ (f : find v e i x (canSkip g class) g ≡ selected p).
     or-right (canBegin g class p) (canSkip g class p) (found v e i x (canSkip g class) g p f .passes)) c
 
 -- opposite conditions at the front are not both met
@@ -90,7 +90,7 @@ module _ (v : View) (e : Names) (i : ℕ) where
   unfolding asks ready met asked
   asks-met b q [] h r = let z : _≡_ {A = ℕ} 0 1 = cc in absurd (omega arith)
   asks-met b q (token cs ∷ ss) h r = let z : _≡_ {A = ℕ} 0 1 = cc in absurd (omega arith)
-  asks-met b q (part x ∷ ss) h r = let z : _≡_ {A = ℕ} 0 1 = cc in absurd (omega arith)
+  asks-met b q (derived x ∷ ss) h r = let z : _≡_ {A = ℕ} 0 1 = cc in absurd (omega arith)
   asks-met b q (condition a (next cs) ∷ ss) h r = asks-met b q ss h (and-right (agrees a (among cs (v .class e i))) (ready v e i ss) r)
   asks-met b q (condition a (query k) ∷ ss) h r =
       or-else (and (eqb q k) (agrees b a)) (asks b q ss)
@@ -104,7 +104,7 @@ module _ (v : View) (e : Names) (i : ℕ) where
   unfolding opposed ready met asked
   opposed-apart [] ts h r k = let z : _≡_ {A = ℕ} 0 1 = cc in absurd (omega arith)
   opposed-apart (token cs ∷ ss) ts h r k = let z : _≡_ {A = ℕ} 0 1 = cc in absurd (omega arith)
-  opposed-apart (part x ∷ ss) ts h r k = let z : _≡_ {A = ℕ} 0 1 = cc in absurd (omega arith)
+  opposed-apart (derived x ∷ ss) ts h r k = let z : _≡_ {A = ℕ} 0 1 = cc in absurd (omega arith)
   opposed-apart (condition b (next cs) ∷ ss) ts h r k =
       opposed-apart ss ts h (and-right (agrees b (among cs (v .class e i))) (ready v e i ss) r) k
   opposed-apart (condition b (query q) ∷ ss) ts h r k =
@@ -136,7 +136,7 @@ module _ (g : List Production) (h : Hints) (c : ℕ) (v : View) (e : Names) (i x
 
     none-by : (p q : Production) (ps : List Production) → p .left ≡ x → ready v e i (p .right) ≡ true → excludes g h c p q ≡ true
         → find v e i x test ps ≡ none → (t : Bool) → and (eqb (q .left) x) (and (test q) (ready v e i (q .right))) ≡ t
-        → pick t (one q) (find v e i x test ps) ≡ none
+        → pick t (selected q) (find v e i x test ps) ≡ none
     none-by p q ps lp rp out later true s =
         let f = fits q s in
         absurd (excluded p q lp (f .0) out (f .1 .0) rp (f .1 .1))
@@ -153,16 +153,16 @@ module _ (g : List Production) (h : Hints) (c : ℕ) (v : View) (e : Names) (i x
 
     here-by : (p : Production) (ps : List Production) → p .left ≡ x → ready v e i (p .right) ≡ true
         → every (excludes g h c p) ps ≡ true → (t : Bool) → test p ≡ t
-        → pick (and (eqb (p .left) x) (and t (ready v e i (p .right)))) (one p) (find v e i x test ps) ≡ pick t (one p) none
+        → pick (and (eqb (p .left) x) (and t (ready v e i (p .right)))) (selected p) (find v e i x test ps) ≡ pick t (selected p) none
     unfolding and
     here-by p ps lp rp out true s = rw (eq-eqb (p .left) x lp, rp)
     here-by p ps lp rp out false s = rw (eq-eqb (p .left) x lp) (none-found p ps lp rp out)
 
     there-by : (p q : Production) (ps : List Production) → p .left ≡ x → live g h c p ≡ true → ready v e i (p .right) ≡ true
         → implies (live g h c q) (every (excludes g h c q) ps) ≡ true → Has ps p
-        → find v e i x test ps ≡ pick (test p) (one p) none
+        → find v e i x test ps ≡ pick (test p) (selected p) none
         → (t : Bool) → and (eqb (q .left) x) (and (test q) (ready v e i (q .right))) ≡ t
-        → pick t (one q) (find v e i x test ps) ≡ pick (test p) (one p) none
+        → pick t (selected q) (find v e i x test ps) ≡ pick (test p) (selected p) none
     there-by p q ps lp ap rp out has later true s =
         let f = fits q s in
         let all = implies-true (live g h c q) (every (excludes g h c q) ps) out (f .1 .0) in
@@ -170,7 +170,7 @@ module _ (g : List Production) (h : Hints) (c : ℕ) (v : View) (e : Names) (i x
     there-by p q ps lp ap rp out has later false s = later
 
     sole : (ps : List Production) (p : Production) → exclusive g h c ps ≡ true → Has ps p → p .left ≡ x → live g h c p ≡ true
-        → ready v e i (p .right) ≡ true → find v e i x test ps ≡ pick (test p) (one p) none
+        → ready v e i (p .right) ≡ true → find v e i x test ps ≡ pick (test p) (selected p) none
     unfolding find exclusive
     sole ps p out (here {ps = qs}) lp ap rp =
         let all = implies-true (live g h c p) (every (excludes g h c p) qs) (and-left _ (exclusive g h c qs) out) ap in
@@ -182,8 +182,8 @@ module _ (g : List Production) (h : Hints) (c : ℕ) (v : View) (e : Names) (i x
 -- the reading takes the production that may have to be taken and whose conditions are met
 module _ (g : List Production) (h : Hints) (v : View) (e : Names) (x i : ℕ) (out : exclusive g h (v .class e i) g ≡ true) where
   choice-by : (p : Production) → Has g p → p .left ≡ x → live g h (v .class e i) p ≡ true → ready v e i (p .right) ≡ true
-      → (t : Bool) → canBegin g (v .class e i) p ≡ t → choice g v e x i ≡ one p
-  unfolding choice live orElse or
+      → (t : Bool) → canBegin g (v .class e i) p ≡ t → choice g v e x i ≡ selected p
+  unfolding choice live otherwise or
   choice-by p has lp ap rp true s =
       let begin = sole g h (v .class e i) v e i x (canBegin g (v .class e i))
       (λ (q : Production) (l : q .left ≡ x) (t : canBegin g (v .class e i) q ≡ true). or-left _ _ t) g p out has lp ap rp in
@@ -199,5 +199,5 @@ module _ (g : List Production) (h : Hints) (v : View) (e : Names) (x i : ℕ) (o
       rw (begin, s, skip, and-left (canSkip g (v .class e i) p) _ both)
 
   pub choice-is : (p : Production) → Has g p → p .left ≡ x → live g h (v .class e i) p ≡ true → ready v e i (p .right) ≡ true
-      → choice g v e x i ≡ one p
+      → choice g v e x i ≡ selected p
   choice-is p has lp ap rp = choice-by p has lp ap rp (canBegin g (v .class e i) p) refl

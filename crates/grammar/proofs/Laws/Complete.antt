@@ -6,11 +6,12 @@ use mathlib.Core.Bool.{Bool, true}
 use mathlib.Core.List.{List}
 use native.Mathlib.Nat.{zero-add}
 use native.Mathlib.Omega.{arith}
-use Rattle.grammar.specs.Grammars.{Symbol, token, part, condition, Production, Names, View}
-use Rattle.grammar.specs.Rows.{Row, levels}
+use Rattle.grammar.specs.Grammars.{Symbol, token, derived, condition, Production, Names, View}
+use Rattle.tree.specs.TreeTable.{Row}
+use Rattle.grammar.specs.Rows.{levels}
 use Rattle.grammar.specs.Derivations.{Has, Derives, end, taken, held, entered}
 use Rattle.grammar.specs.First.{canBegin, canSkip}
-use Rattle.grammar.specs.Reading.{Outcome, ok, spent, one, choice, onward, descend, enter, joined, readWithin}
+use Rattle.grammar.specs.Reading.{Outcome, ok, spent, selected, choice, onward, descend, enter, joined, readWithin}
 use Rattle.grammar.proofs.Laws.Checks.{Hints, may, live, Closed}
 use Rattle.grammar.proofs.Laws.Choices.{choice-is}
 use Rattle.grammar.proofs.Laws.Follow.{Steady, passed-at, derives-ready, Flows, flows-rest, flows-right, may-begin, part-followed}
@@ -39,7 +40,7 @@ descend-below (suc l) (suc n) m i below h = descend-below l n m i below (omega a
 module _ (g : List Production) (v : View) (h : Hints) (bound : ℕ) (good : Closed g h bound) (steady : Steady v h bound) where
   -- the production that a derivation uses is the one that the reading takes
   taken-choice : {e : Names} {n i j said : ℕ} {rows : List Row} (x : ℕ) (p : Production) → Has g p → p .left ≡ x
-      → Derives g v e n (p .right) i j rows said → h .follow x (v .class e j) ≡ true → choice g v e x i ≡ one p
+      → Derives g v e n (p .right) i j rows said → h .follow x (v .class e j) ≡ true → choice g v e x i ≡ selected p
   unfolding live may canBegin canSkip
   taken-choice {e = e} {i = i} x p has left d f =
       let begin = may-begin g v h bound good steady d (h .follow x) (flows-right g v h bound good steady p x has left) f in
@@ -62,4 +63,4 @@ module _ (g : List Production) (v : View) (h : Hints) (bound : ℕ) (good : Clos
       rw (taken-choice x p has of inner within, descend-below (levels (p .makes)) n left i _ fits)
       (agrees-onward _ (complete inner (h .follow x) (flows-right g v h bound good steady p x has of) within fuel)
       (agrees-onward (joined (p .makes) i j rows said)
-      (complete rest after (flows-rest g v h bound good steady after (part x) ss f) t fuel) same))
+      (complete rest after (flows-rest g v h bound good steady after (derived x) ss f) t fuel) same))

@@ -8,8 +8,8 @@ use mathlib.Core.Logic.{_⊎_, inl, inr}
 use native.Mathlib.Omega.{arith}
 use Rattle.lexer.specs.Tests.{and, or}
 use Rattle.lexer.proofs.Laws.Tests.{and-left, and-right, or-else, or-left}
-use Rattle.grammar.specs.Grammars.{Condition, next, query, Symbol, token, part, condition, Production, Names, View, asked, met}
-use Rattle.grammar.specs.Rows.{Row}
+use Rattle.grammar.specs.Grammars.{Condition, next, query, Symbol, token, derived, condition, Production, Names, View, asked, met}
+use Rattle.tree.specs.TreeTable.{Row}
 use Rattle.grammar.specs.Derivations.{Has, Derives, end, taken, held, entered}
 use Rattle.grammar.specs.First.{allows, skips, starts, empty, first, canBegin, canSkip}
 use Rattle.grammar.specs.Reading.{ready}
@@ -60,7 +60,7 @@ flows-less : (g : List Production) (h : Hints) (c : ℕ) (a b : Bool) (ss : List
 unfolding flows
 flows-less g h c a b [] l f = refl
 flows-less g h c a b (token cs ∷ ss) l f = flows-less g h c a b ss l f
-flows-less g h c a b (part x ∷ ss) l f =
+flows-less g h c a b (derived x ∷ ss) l f =
     let now = and-left (implies (may g c b ss) (h .follow x c)) (flows g h c b ss) f in
     let later = and-right (implies (may g c b ss) (h .follow x c)) (flows g h c b ss) f in
     and-both _ _ (implies-less (may g c a ss) (may g c b ss) (h .follow x c) (may-less g c a b ss l) now) (flows-less g h c a b ss l later)
@@ -96,7 +96,7 @@ module _ (g : List Production) (v : View) (h : Hints) (bound : ℕ) (good : Clos
   Flows after ss = (c : ℕ) → c < bound → flows g h c (after c) ss ≡ true
 
   -- what may come at the end of a part may follow it
-  pub flows-part : (after : ℕ → Bool) (x : ℕ) (ss : List Symbol) → Flows after (part x ∷ ss)
+  pub flows-part : (after : ℕ → Bool) (x : ℕ) (ss : List Symbol) → Flows after (derived x ∷ ss)
       → (c : ℕ) → c < bound → implies (may g c (after c) ss) (h .follow x c) ≡ true
   unfolding flows
   flows-part after x ss f c l = and-left (implies (may g c (after c) ss) (h .follow x c)) (flows g h c (after c) ss) (f c l)
@@ -105,7 +105,7 @@ module _ (g : List Production) (v : View) (h : Hints) (bound : ℕ) (good : Clos
   pub flows-rest : (after : ℕ → Bool) (s : Symbol) (ss : List Symbol) → Flows after (s ∷ ss) → Flows after ss
   unfolding flows
   flows-rest after (token cs) ss f c l = f c l
-  flows-rest after (part x) ss f c l = and-right (implies (may g c (after c) ss) (h .follow x c)) (flows g h c (after c) ss) (f c l)
+  flows-rest after (derived x) ss f c l = and-right (implies (may g c (after c) ss) (h .follow x c)) (flows g h c (after c) ss) (f c l)
   flows-rest after (condition b q) ss f c l = f c l
 
   -- the symbols of a production, followed by what may follow its nonterminal
@@ -116,7 +116,7 @@ module _ (g : List Production) (v : View) (h : Hints) (bound : ℕ) (good : Clos
 
   -- a production that begins with a class, or is empty before it, gives a nonterminal that does
   part-by : (p : Production) (x c : ℕ) (a : Bool) (ss : List Symbol) → c < bound → Has g p → p .left ≡ x
-      → may g c (may g c a ss) (p .right) ≡ true → may g c a (part x ∷ ss) ≡ true
+      → may g c (may g c a ss) (p .right) ≡ true → may g c a (derived x ∷ ss) ≡ true
   unfolding may starts skips firstClosed emptyClosed canBegin canSkip
   part-by p x c a ss l has left m =
       let tests = passed-at g h bound c good l in
@@ -139,7 +139,7 @@ module _ (g : List Production) (v : View) (h : Hints) (bound : ℕ) (good : Clos
   may-begin (held {e = e} {i = i} {b = b} {q = q} {ss = ss} m d) after f t =
       rw (allows-met v e i b q m) (may-begin d after (flows-rest after (condition b q) ss f) t)
   may-begin (entered {e = e} {i = i} {j = j} {x = x} {p = p} {ss = ss} has left fits inner rest) after f t =
-      let next = may-begin rest after (flows-rest after (part x) ss f) t in
+      let next = may-begin rest after (flows-rest after (derived x) ss f) t in
       let l = steady .classed e j in
       let follow = implies-true _ (h .follow x (v .class e j)) (flows-part after x ss f (v .class e j) l) next in
       let here : may g (v .class (v .inside x i e) j) (after (v .class (v .inside x i e) j)) ss ≡ true =
@@ -151,7 +151,7 @@ module _ (g : List Production) (v : View) (h : Hints) (bound : ℕ) (good : Clos
 
   -- what comes after a part may follow it
   pub part-followed : {e : Names} {n j k said : ℕ} {ss : List Symbol} {rows : List Row} (x : ℕ) → Derives g v e n ss j k rows said
-      → (after : ℕ → Bool) → Flows after (part x ∷ ss) → after (v .class e k) ≡ true → h .follow x (v .class e j) ≡ true
+      → (after : ℕ → Bool) → Flows after (derived x ∷ ss) → after (v .class e k) ≡ true → h .follow x (v .class e j) ≡ true
   part-followed {e = e} {j = j} {ss = ss} x rest after f t =
       implies-true _ (h .follow x (v .class e j)) (flows-part after x ss f (v .class e j) (steady .classed e j))
-      (may-begin rest after (flows-rest after (part x) ss f) t)
+      (may-begin rest after (flows-rest after (derived x) ss f) t)

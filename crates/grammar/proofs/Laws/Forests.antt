@@ -8,8 +8,9 @@ use native.Mathlib.Nat.{suc-add, zero-add}
 use native.Mathlib.Omega.{arith}
 use lib.ListN.{length, length-append}
 use borrow.Author.Tests.{leb-true}
-use Rattle.grammar.specs.Grammars.{Symbol, part, Makes, row, rowOf, says, noRow, Production, Names, View}
-use Rattle.grammar.specs.Rows.{Row, above, made, levels}
+use Rattle.grammar.specs.Grammars.{Symbol, derived, Makes, givesRow, rowOf, givesKind, noRow, Production, Names, View}
+use Rattle.tree.specs.TreeTable.{Row}
+use Rattle.grammar.specs.Rows.{above, made, levels}
 use Rattle.grammar.specs.Derivations.{Derives, end, taken, held, entered}
 use Rattle.grammar.specs.Forests.{Forest, nothing, tree}
 use Rattle.grammar.proofs.Laws.CheckLaws.{every-has}
@@ -37,9 +38,9 @@ forest-above {n = n} {i = i} {j = j} {rows = rows} kind h children =
 forest-made : {below i j : ℕ} {rows : List Row} → (makes : Makes) → (said : ℕ) → i ≤ j → Forest below i j rows
     → Forest (levels makes + below) i j (made makes i j said rows)
 unfolding levels made
-forest-made (row kind) said h f = rw (suc-add, zero-add) (forest-above kind h f)
+forest-made (givesRow kind) said h f = rw (suc-add, zero-add) (forest-above kind h f)
 forest-made rowOf said h f = rw (suc-add, zero-add) (forest-above said h f)
-forest-made (says kind) said h f = rw zero-add f
+forest-made (givesKind kind) said h f = rw zero-add f
 forest-made noRow said h f = rw zero-add f
 
 -- the counts of the top rows
@@ -62,9 +63,9 @@ count-children r c f = let children = counts-add f in omega arith
 
 made-length : (makes : Makes) → (i j said : ℕ) → (rows : List Row) → length (made makes i j said rows) ≡ levels makes + length rows
 unfolding levels made
-made-length (row kind) i j said rows = omega arith
+made-length (givesRow kind) i j said rows = omega arith
 made-length rowOf i j said rows = omega arith
-made-length (says kind) i j said rows = omega arith
+made-length (givesKind kind) i j said rows = omega arith
 made-length noRow i j said rows = omega arith
 
 few-made : (h : Hints) → (p : Production) → (x : ℕ) → p .left ≡ x → fewRows h p ≡ true
@@ -99,6 +100,6 @@ module _ {g : List Production} {v : View} where
 
     -- over all tokens
     pub rows-few : {e : Names} {n x count said : ℕ} {rows : List Row} → h .more x ≤ 1
-        → Derives g v e n (part x ∷ []) 0 count rows said → length rows ≤ 2 * count + 1
+        → Derives g v e n (derived x ∷ []) 0 count rows said → length rows ≤ 2 * count + 1
     unfolding fewerOf moreOf
     rows-few one d = let all = few-rows d in omega arith

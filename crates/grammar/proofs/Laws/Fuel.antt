@@ -9,9 +9,10 @@ use lib.Dec.{leb}
 use borrow.Author.Tests.{leb-true}
 use Rattle.lexer.specs.Tests.{and, pick, among}
 use Rattle.lexer.proofs.Laws.Tests.{and-left, and-right}
-use Rattle.grammar.specs.Grammars.{Condition, Symbol, token, part, condition, Production, Names, View, agrees, met}
-use Rattle.grammar.specs.Rows.{Row, levels}
-use Rattle.grammar.specs.Reading.{Outcome, spent, one, choice, joined, readWithin, breadth, whole, reading}
+use Rattle.grammar.specs.Grammars.{Condition, Symbol, token, derived, condition, Production, Names, View, agrees, met}
+use Rattle.tree.specs.TreeTable.{Row}
+use Rattle.grammar.specs.Rows.{levels}
+use Rattle.grammar.specs.Reading.{Outcome, spent, selected, choice, joined, readWithin, breadth, whole, reading}
 use Rattle.grammar.proofs.Laws.CheckLaws.{and-else, implies-false, every-has}
 use Rattle.grammar.proofs.Laws.Choices.{chosen}
 use Rattle.grammar.proofs.Laws.Outcomes.{Ends, Anywhere, upTo, out, ends-spent, ends-over, ends-both, ends-pick, ends-onward}
@@ -88,7 +89,7 @@ module _ (h : Hints) (v : View) where
   advances-condition b q ss i j a = record { forth = a .forth; some = a .some; stays = a .stays }
 
   advances-part : (x w : ℕ) (p : Production) (ss : List Symbol) (i j k : ℕ) → Falls h w x p
-      → Advances h v (p .right) i j → Advances h v ss j k → Advances h v (part x ∷ ss) i k
+      → Advances h v (p .right) i j → Advances h v ss j k → Advances h v (derived x ∷ ss) i k
   unfolding noEnd vanishes
   advances-part x w p ss i j k l a b =
       let first = a .forth in
@@ -104,7 +105,7 @@ module _ (h : Hints) (v : View) where
       }
 
 module _ (g : List Production) (v : View) (h : Hints) (w : ℕ) (good : every (falls h w) g ≡ true) where
-  chosen-falls : (e : Names) (x i : ℕ) (p : Production) → choice g v e x i ≡ one p → Falls h w x p
+  chosen-falls : (e : Names) (x i : ℕ) (p : Production) → choice g v e x i ≡ selected p → Falls h w x p
   chosen-falls e x i p c =
       let (at, same) = chosen g v e x i p c in
       subst (λ (y : ℕ). Falls h w y p) same (falls-of h w p (every-has (falls h w) g p good at))
@@ -119,8 +120,8 @@ module _ (g : List Production) (v : View) (h : Hints) (w : ℕ) (good : every (f
   advances-within (suc f) e n (condition b q ∷ ss) i =
       ends-pick (met v e i b q) (readWithin g v f e n ss i) i tt (λ (t : met v e i b q ≡ true).
       ends-over (advances-within f e n ss i) (λ (j : ℕ) (rows : List Row) (said : ℕ). advances-condition h v b q ss i j))
-  advances-within (suc f) e n (part x ∷ ss) i =
-      ends-enter (choice g v (v .inside x i e) x i) n i _ tt (λ p c l. tt) (λ (p : Production) (below : ℕ) (c : choice g v (v .inside x i e) x i ≡ one p)
+  advances-within (suc f) e n (derived x ∷ ss) i =
+      ends-enter (choice g v (v .inside x i e) x i) n i _ tt (λ p c l. tt) (λ (p : Production) (below : ℕ) (c : choice g v (v .inside x i e) x i ≡ selected p)
       (fit : n ≡ levels (p .makes) + below).
       ends-onward _ (advances-within f (v .inside x i e) below (p .right) i)
       (λ (j : ℕ) (inner : List Row) (said : ℕ) (a : Advances h v (p .right) i j).
@@ -133,7 +134,7 @@ needs-some : (h : Hints) (ss : List Symbol) → 1 ≤ needs h ss
 unfolding needs
 needs-some h [] = omega arith
 needs-some h (token cs ∷ ss) = omega arith
-needs-some h (part x ∷ ss) = omega arith
+needs-some h (derived x ∷ ss) = omega arith
 needs-some h (condition b q ∷ ss) = omega arith
 
 bounded-needs : (h : Hints) (w : ℕ) (ss : List Symbol) → bounded h w ss ≡ true → needs h ss ≤ w
@@ -184,9 +185,9 @@ module _ (g : List Production) (v : View) (h : Hints) (w count : ℕ) (good : ev
   unspent (suc f) e n (condition c q ∷ ss) i a b u =
       ends-pick (met v e i c q) (readWithin g v f e n ss i) i tt (λ (t : met v e i c q ≡ true).
       unspent f e n ss i a (bounded-rest h w (condition c q) ss b) (omega arith))
-  unspent (suc f) e n (part x ∷ ss) i a b u =
-      let rest = bounded-rest h w (part x) ss b in
-      ends-enter (choice g v (v .inside x i e) x i) n i _ tt (λ p c l. tt) (λ (p : Production) (below : ℕ) (c : choice g v (v .inside x i e) x i ≡ one p)
+  unspent (suc f) e n (derived x ∷ ss) i a b u =
+      let rest = bounded-rest h w (derived x) ss b in
+      ends-enter (choice g v (v .inside x i e) x i) n i _ tt (λ p c l. tt) (λ (p : Production) (below : ℕ) (c : choice g v (v .inside x i e) x i ≡ selected p)
       (fit : n ≡ levels (p .makes) + below).
       let l = chosen-falls g v h w good (v .inside x i e) x i p c in
       let light = l .light in

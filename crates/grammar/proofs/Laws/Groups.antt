@@ -11,7 +11,7 @@ use Rattle.lexer.specs.Tests.{and, or, pick}
 use Rattle.grammar.specs.Grammars.{Symbol, Production, Names, View}
 use Rattle.grammar.specs.First.{skips, starts, anyOf, emptyWithin, firstWithin, empty, first, canBegin, canSkip}
 use Rattle.grammar.specs.Reading.{ready}
-use Rattle.grammar.specs.Alternatives.{shown, numberOf, numberElse, alternative}
+use Rattle.grammar.specs.internal.Alternatives.{shown, alternativeNumber, numberElse, alternative}
 
 -- the productions of x
 unfoldable pub ofPart : ℕ → List Production → List Production
@@ -37,16 +37,16 @@ any-part x test (p ∷ ps) = any-by x test p ps (eqb (p .left) x) refl (any-part
 -- .. and to its number
 module _ (v : View) (e : Names) (i x : ℕ) (test : Production → Bool) where
   number-by : (k : ℕ) (p : Production) (ps : List Production) (t : Bool) → eqb (p .left) x ≡ t
-      → numberOf v e i x test k ps ≡ numberOf v e i x test k (ofPart x ps)
-      → numberOf v e i x test (suc k) ps ≡ numberOf v e i x test (suc k) (ofPart x ps)
-      → pick t (pick (and (test p) (ready v e i (p .right))) k (numberOf v e i x test (suc k) ps)) (numberOf v e i x test k ps)
-      ≡ numberOf v e i x test k (pick t (p ∷ ofPart x ps) (ofPart x ps))
-  unfolding numberOf
+      → alternativeNumber v e i x test k ps ≡ alternativeNumber v e i x test k (ofPart x ps)
+      → alternativeNumber v e i x test (suc k) ps ≡ alternativeNumber v e i x test (suc k) (ofPart x ps)
+      → pick t (pick (and (test p) (ready v e i (p .right))) k (alternativeNumber v e i x test (suc k) ps)) (alternativeNumber v e i x test k ps)
+      ≡ alternativeNumber v e i x test k (pick t (p ∷ ofPart x ps) (ofPart x ps))
+  unfolding alternativeNumber
   number-by k p ps true s rest later = rw (s, later)
   number-by k p ps false s rest later = rest
 
-  number-part : (k : ℕ) (g : List Production) → numberOf v e i x test k g ≡ numberOf v e i x test k (ofPart x g)
-  unfolding numberOf ofPart
+  number-part : (k : ℕ) (g : List Production) → alternativeNumber v e i x test k g ≡ alternativeNumber v e i x test k (ofPart x g)
+  unfolding alternativeNumber ofPart
   number-part k [] = refl
   number-part k (p ∷ ps) = number-by k p ps (eqb (p .left) x) refl (number-part k ps) (number-part (suc k) ps)
 
@@ -57,8 +57,8 @@ same-values f h p = λ i. λ a. p a i
 -- the number among some productions, given what can begin with the token and what can derive none before it
 abbrev numberBy : ℕ → Bool → ℕ → (ℕ → Bool) → (ℕ → Bool) → List Production → ℕ
 numberBy c b x begins skipped ps =
-    let other = numberOf (shown c b) [] 0 x (λ (p : Production). skips c skipped (p .right)) 1 ps in
-    numberElse (numberOf (shown c b) [] 0 x (λ (p : Production). starts c begins skipped (p .right)) 1 ps) other
+    let other = alternativeNumber (shown c b) [] 0 x (λ (p : Production). skips c skipped (p .right)) 1 ps in
+    numberElse (alternativeNumber (shown c b) [] 0 x (λ (p : Production). starts c begins skipped (p .right)) 1 ps) other
 
 number-same : (c : ℕ) (b : Bool) (x : ℕ) (begins skipped : ℕ → Bool) (g : List Production)
     → numberBy c b x begins skipped g ≡ numberBy c b x begins skipped (ofPart x g)

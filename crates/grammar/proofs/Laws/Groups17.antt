@@ -11,14 +11,14 @@ use Rattle.lexer.specs.Tests.{and, or, pick, among}
 use Rattle.lexer.specs.internal.Kinds.{keyword, sizeof, string, dollar, ampersand, at, percent, colon, bar, equal, semicolon, tilde}
 use Rattle.lexer.specs.internal.Kinds.{leftBrace, rightBrace, leftParen, rightParen, leftBracket, rightBracket, bang, caret, backslash}
 use Rattle.lexer.specs.internal.Kinds.{question, dot, hash, star, questionQuestion, arrow, lastKind}
-use Rattle.grammar.specs.Grammars.{query, token, part, when, unless, row, rowOf, says, noRow, Production, agrees, asked, met}
-use Rattle.grammar.specs.internal.RowKinds.{programRow, importRow, foreignRow, traitRow, implRow, functionRow, structRow, enumRow}
-use Rattle.grammar.specs.internal.RowKinds.{constantRow, headerRow, parameterRow, variantRow, listRow, blockRow, letRow}
-use Rattle.grammar.specs.internal.RowKinds.{setNameRow, setElementRow, deferRow, whileRow, foreachRow, literalRow, nameRow}
-use Rattle.grammar.specs.internal.RowKinds.{binaryRow, notRow, returnRow, complementRow, tryRow, closureRow, sizeofRow}
-use Rattle.grammar.specs.internal.RowKinds.{aggregateRow, sliceRow, conditionalRow, callRow, memberRow, castRow, matchRow, armRow}
-use Rattle.grammar.specs.internal.RowKinds.{payloadRow, baseTypeRow, pointerRow, optionalRow, sliceTypeRow, resultRow}
-use Rattle.grammar.specs.internal.RowKinds.{functionTypeRow, instanceRow, namedTypeRow}
+use Rattle.grammar.specs.Grammars.{query, token, derived, when, unless, givesRow, rowOf, givesKind, noRow, Production, agrees}
+use Rattle.grammar.specs.Grammars.{asked, met}
+use Rattle.tree.specs.internal.RowKinds.{programRow, importRow, foreignRow, traitRow, implRow, functionRow, structRow, enumRow}
+use Rattle.tree.specs.internal.RowKinds.{constantRow, headerRow, parameterRow, variantRow, listRow, blockRow, letRow, setNameRow}
+use Rattle.tree.specs.internal.RowKinds.{setElementRow, deferRow, whileRow, foreachRow, literalRow, nameRow, binaryRow, notRow}
+use Rattle.tree.specs.internal.RowKinds.{returnRow, complementRow, tryRow, closureRow, sizeofRow, aggregateRow, sliceRow}
+use Rattle.tree.specs.internal.RowKinds.{conditionalRow, callRow, memberRow, castRow, matchRow, armRow, payloadRow, baseTypeRow}
+use Rattle.tree.specs.internal.RowKinds.{pointerRow, optionalRow, sliceTypeRow, resultRow, functionTypeRow, instanceRow, namedTypeRow}
 use Rattle.grammar.specs.internal.Nonterminals.{program, declarations, declaration, alias, interface, interfaceRest, methods}
 use Rattle.grammar.specs.internal.Nonterminals.{method, body, functions, function, definition, mutable, fields, field, fieldName}
 use Rattle.grammar.specs.internal.Nonterminals.{parameters, parameter, variants, variant, payloadTypes, typeParameters, nameList}
@@ -26,134 +26,143 @@ use Rattle.grammar.specs.internal.Nonterminals.{moreNames, block, statem
 use Rattle.grammar.specs.internal.Nonterminals.{loopOrComplement, expressions, expression, literal, tryOrClosure, typeArguments}
 use Rattle.grammar.specs.internal.Nonterminals.{wordList, moreWords, castRest, selector, arms, arm, payloads3, payloads2}
 use Rattle.grammar.specs.internal.Nonterminals.{payloads1, payload, types, type, parenthesized, structParameters}
-use Rattle.grammar.specs.internal.Classes.{name, declaredWord, word, payloadToken, literals, operators}
+use Rattle.grammar.specs.internal.Classes.{name, declaredWord, anyWord, payloadToken, literals, operators}
 use Rattle.grammar.specs.First.{allows, skips, starts, anyOf}
 use Rattle.grammar.specs.Reading.{ready}
 use Rattle.grammar.specs.Nurl.{anyName, plainName, productions}
-use Rattle.grammar.specs.internal.Nurl.{one, rule, aTilde, aBrace, aStar, opensNames, opensWords, opensStruct, twoNames}
-use Rattle.grammar.specs.internal.Nurl.{opensClosure, zeroOrOne, opensStructNames}
-use Rattle.grammar.specs.Alternatives.{numberOf, numberElse, alternative, kindAlternative}
+use Rattle.grammar.specs.internal.Productions.{kindToken, ruleOf, aTilde, aBrace, aStar, opensNames, opensWords, opensStruct}
+use Rattle.grammar.specs.internal.Productions.{twoNames, opensClosure, zeroOrOne, opensStructNames}
+use Rattle.grammar.specs.internal.Alternatives.{alternativeNumber, numberElse, alternative, kindAlternative}
 use Rattle.grammar.proofs.Laws.Groups.{ofPart, emptyBy, firstBy, alternativeBy, alternative-same, same-values, listed, listed-at}
 
 -- the productions of each nonterminal, in the order of the nonterminals' numbers
 unfoldable pub groupList : List (List Production)
 groupList =
     [] ∷
-    (rule program (row programRow) (part declarations ∷ []) ∷ []) ∷
-    (rule declarations noRow (part declaration ∷ part declarations ∷ []) ∷
-    rule declarations noRow [] ∷ []) ∷
-    (rule declaration (row importRow) (one dollar ∷ one string ∷ part alias ∷ []) ∷
-    rule declaration (row foreignRow) (one ampersand ∷ one string ∷ one at ∷ token name ∷ part fields ∷ one arrow ∷ part type ∷ []) ∷
-    rule declaration noRow (part function ∷ []) ∷
-    rule declaration rowOf (one colon ∷ part definition ∷ []) ∷
-    rule declaration noRow (part interface ∷ []) ∷ []) ∷
-    (rule alias noRow (token name ∷ []) ∷
-    rule alias noRow [] ∷ []) ∷
-    (rule interface rowOf (one percent ∷ token name ∷ part typeParameters ∷ part interfaceRest ∷ []) ∷ []) ∷
-    (rule interfaceRest (says traitRow) (one leftBrace ∷ part methods ∷ one rightBrace ∷ []) ∷
-    rule interfaceRest (says implRow) (part type ∷ one leftBrace ∷ part functions ∷ one rightBrace ∷ []) ∷ []) ∷
-    (rule methods noRow (part method ∷ part methods ∷ []) ∷
-    rule methods noRow [] ∷ []) ∷
-    (rule method rowOf (one at ∷ token name ∷ part typeParameters ∷ part parameters ∷ one arrow ∷ part type ∷ part body ∷ []) ∷ []) ∷
-    (rule body (says functionRow) (part block ∷ []) ∷
-    rule body (says headerRow) [] ∷ []) ∷
-    (rule functions noRow (part function ∷ part functions ∷ []) ∷
-    rule functions noRow [] ∷ []) ∷
-    (rule function (row functionRow) (one at ∷ token name ∷ part typeParameters ∷ part parameters ∷ one arrow ∷ part type ∷ part block ∷
-    []) ∷ []) ∷
-    (rule definition (says structRow) (when (query opensStruct) ∷ token name ∷ part structParameters ∷ one leftBrace ∷ part fields ∷
-    one rightBrace ∷ []) ∷
-    rule definition (says enumRow) (one bar ∷ token name ∷ one leftBrace ∷ part variants ∷ one rightBrace ∷ []) ∷
-    rule definition (says constantRow) (unless (query opensStruct) ∷ part mutable ∷ part type ∷ token name ∷ part literal ∷ []) ∷ []) ∷
-    (rule mutable noRow (one tilde ∷ []) ∷
-    rule mutable noRow [] ∷ []) ∷
-    (rule fields noRow (part field ∷ part fields ∷ []) ∷
-    rule fields noRow [] ∷ []) ∷
-    (rule field (row parameterRow) (part type ∷ part fieldName ∷ []) ∷ []) ∷
-    (rule fieldName noRow (token name ∷ []) ∷
-    rule fieldName noRow (unless anyName ∷ []) ∷ []) ∷
-    (rule parameters noRow (part parameter ∷ part parameters ∷ []) ∷
-    rule parameters noRow [] ∷ []) ∷
-    (rule parameter (row parameterRow) (part type ∷ token name ∷ []) ∷ []) ∷
-    (rule variants noRow (part variant ∷ part variants ∷ []) ∷
-    rule variants noRow [] ∷ []) ∷
-    (rule variant (row variantRow) (when plainName ∷ token name ∷ part payloadTypes ∷ []) ∷ []) ∷
-    (rule payloadTypes noRow (unless plainName ∷ part type ∷ part payloadTypes ∷ []) ∷
-    rule payloadTypes noRow [] ∷ []) ∷
-    (rule typeParameters noRow (when (query opensNames) ∷ part nameList ∷ []) ∷
-    rule typeParameters noRow (unless (query opensNames) ∷ []) ∷ []) ∷
-    (rule nameList (row listRow) (one leftBracket ∷ token declaredWord ∷ part moreNames ∷ one rightBracket ∷ []) ∷ []) ∷
-    (rule moreNames noRow (token declaredWord ∷ part moreNames ∷ []) ∷
-    rule moreNames noRow [] ∷ []) ∷
-    (rule block (row blockRow) (one leftBrace ∷ part statements ∷ one rightBrace ∷ []) ∷ []) ∷
-    (rule statements noRow (part statement ∷ part statements ∷ []) ∷
-    rule statements noRow [] ∷ []) ∷
-    (rule statement noRow (unless aTilde ∷ part expression ∷ []) ∷
-    rule statement (row letRow) (one colon ∷ part mutable ∷ part binding ∷ []) ∷
-    rule statement rowOf (one equal ∷ part assignment ∷ []) ∷
-    rule statement (row deferRow) (one semicolon ∷ part block ∷ []) ∷
-    rule statement rowOf (one tilde ∷ part tildeStatement ∷ []) ∷ []) ∷
-    (rule binding noRow (unless plainName ∷ part type ∷ token name ∷ part expression ∷ []) ∷
-    rule binding noRow (when plainName ∷ token name ∷ part expression ∷ []) ∷ []) ∷
-    (rule assignment (says setNameRow) (token name ∷ part expression ∷ []) ∷
-    rule assignment (says setElementRow) (one dot ∷ part expression ∷ part expression ∷ part expression ∷ []) ∷ []) ∷
-    (rule tildeStatement (says foreachRow) (when (query twoNames) ∷ token name ∷ part expression ∷ part block ∷ []) ∷
-    rule tildeStatement noRow (unless (query twoNames) ∷ part expression ∷ part loopOrComplement ∷ []) ∷ []) ∷
-    (rule loopOrComplement (says whileRow) (part block ∷ []) ∷
-    rule loopOrComplement (says complementRow) (unless aBrace ∷ []) ∷ []) ∷
-    (rule expressions noRow (part expression ∷ part expressions ∷ []) ∷
-    rule expressions noRow [] ∷ []) ∷
-    (rule expression noRow (part literal ∷ []) ∷
-    rule expression (row nameRow) (token name ∷ []) ∷
-    rule expression (row binaryRow) (token operators ∷ part expression ∷ part expression ∷ []) ∷
-    rule expression (row notRow) (one bang ∷ part expression ∷ []) ∷
-    rule expression (row returnRow) (one caret ∷ part expression ∷ []) ∷
-    rule expression (row complementRow) (one tilde ∷ part expression ∷ []) ∷
-    rule expression rowOf (one backslash ∷ part tryOrClosure ∷ []) ∷
-    rule expression (row sizeofRow) (one sizeof ∷ part type ∷ []) ∷
-    rule expression (row conditionalRow) (one question ∷ part expression ∷ part expression ∷ part expression ∷ []) ∷
-    rule expression noRow (part block ∷ []) ∷
-    rule expression (row callRow) (one leftParen ∷ token name ∷ part typeArguments ∷ part expressions ∷ one rightParen ∷ []) ∷
-    rule expression (row sliceRow) (one leftBracket ∷ part type ∷ one bar ∷ part expressions ∷ one rightBracket ∷ []) ∷
-    rule expression (row aggregateRow) (one at ∷ part type ∷ one leftBrace ∷ part expressions ∷ one rightBrace ∷ []) ∷
-    rule expression (row memberRow) (one dot ∷ part expression ∷ part expression ∷ []) ∷
-    rule expression (row castRow) (one hash ∷ part castRest ∷ []) ∷
-    rule expression (row matchRow) (one questionQuestion ∷ part expression ∷ one leftBrace ∷ part arms ∷ one rightBrace ∷ []) ∷ []) ∷
-    (rule literal (row literalRow) (token literals ∷ []) ∷ []) ∷
-    (rule tryOrClosure (says tryRow) (unless (query opensClosure) ∷ part expression ∷ []) ∷
-    rule tryOrClosure (says closureRow) (when (query opensClosure) ∷ part parameters ∷ one arrow ∷ part type ∷ part block ∷ []) ∷ []) ∷
-    (rule typeArguments noRow (when (query opensWords) ∷ part wordList ∷ []) ∷
-    rule typeArguments noRow (unless (query opensWords) ∷ []) ∷ []) ∷
-    (rule wordList (row listRow) (one leftBracket ∷ token word ∷ part moreWords ∷ one rightBracket ∷ []) ∷ []) ∷
-    (rule moreWords noRow (token word ∷ part moreWords ∷ []) ∷
-    rule moreWords noRow [] ∷ []) ∷
-    (rule castRest noRow (when aStar ∷ part type ∷ part expression ∷ part selector ∷ []) ∷
-    rule castRest noRow (unless aStar ∷ part type ∷ part expression ∷ []) ∷ []) ∷
-    (rule selector noRow (when (query zeroOrOne) ∷ part literal ∷ []) ∷
-    rule selector noRow (unless (query zeroOrOne) ∷ []) ∷ []) ∷
-    (rule arms noRow (part arm ∷ part arms ∷ []) ∷
-    rule arms noRow [] ∷ []) ∷
-    (rule arm (row armRow) (token declaredWord ∷ part payloads3 ∷ one arrow ∷ part expression ∷ []) ∷ []) ∷
-    (rule payloads3 noRow (part payload ∷ part payloads2 ∷ []) ∷
-    rule payloads3 noRow [] ∷ []) ∷
-    (rule payloads2 noRow (part payload ∷ part payloads1 ∷ []) ∷
-    rule payloads2 noRow [] ∷ []) ∷
-    (rule payloads1 noRow (part payload ∷ []) ∷
-    rule payloads1 noRow [] ∷ []) ∷
-    (rule payload (row payloadRow) (token payloadToken ∷ []) ∷ []) ∷
-    (rule types noRow (part type ∷ part types ∷ []) ∷
-    rule types noRow [] ∷ []) ∷
-    (rule type (row baseTypeRow) (one keyword ∷ []) ∷
-    rule type (row pointerRow) (one star ∷ part type ∷ []) ∷
-    rule type (row optionalRow) (one question ∷ part type ∷ []) ∷
-    rule type (row sliceTypeRow) (one leftBracket ∷ part type ∷ []) ∷
-    rule type (row resultRow) (one bang ∷ part type ∷ part type ∷ []) ∷
-    rule type rowOf (one leftParen ∷ part parenthesized ∷ []) ∷
-    rule type (row namedTypeRow) (token declaredWord ∷ []) ∷ []) ∷
-    (rule parenthesized (says functionTypeRow) (one at ∷ part type ∷ part types ∷ one rightParen ∷ []) ∷
-    rule parenthesized (says instanceRow) (token name ∷ token word ∷ part moreWords ∷ one rightParen ∷ []) ∷ []) ∷
-    (rule structParameters noRow (when (query opensStructNames) ∷ part nameList ∷ []) ∷
-    rule structParameters noRow (unless (query opensStructNames) ∷ []) ∷ []) ∷
+    (ruleOf program (givesRow programRow) (derived declarations ∷ []) ∷ []) ∷
+    (ruleOf declarations noRow (derived declaration ∷ derived declarations ∷ []) ∷
+    ruleOf declarations noRow [] ∷ []) ∷
+    (ruleOf declaration (givesRow importRow) (kindToken dollar ∷ kindToken string ∷ derived alias ∷ []) ∷
+    ruleOf declaration (givesRow foreignRow) (kindToken ampersand ∷ kindToken string ∷ kindToken at ∷ token name ∷ derived fields ∷
+    kindToken arrow ∷ derived type ∷ []) ∷
+    ruleOf declaration noRow (derived function ∷ []) ∷
+    ruleOf declaration rowOf (kindToken colon ∷ derived definition ∷ []) ∷
+    ruleOf declaration noRow (derived interface ∷ []) ∷ []) ∷
+    (ruleOf alias noRow (token name ∷ []) ∷
+    ruleOf alias noRow [] ∷ []) ∷
+    (ruleOf interface rowOf (kindToken percent ∷ token name ∷ derived typeParameters ∷ derived interfaceRest ∷ []) ∷ []) ∷
+    (ruleOf interfaceRest (givesKind traitRow) (kindToken leftBrace ∷ derived methods ∷ kindToken rightBrace ∷ []) ∷
+    ruleOf interfaceRest (givesKind implRow) (derived type ∷ kindToken leftBrace ∷ derived functions ∷ kindToken rightBrace ∷ []) ∷ []) ∷
+    (ruleOf methods noRow (derived method ∷ derived methods ∷ []) ∷
+    ruleOf methods noRow [] ∷ []) ∷
+    (ruleOf method rowOf (kindToken at ∷ token name ∷ derived typeParameters ∷ derived parameters ∷ kindToken arrow ∷ derived type ∷
+    derived body ∷ []) ∷ []) ∷
+    (ruleOf body (givesKind functionRow) (derived block ∷ []) ∷
+    ruleOf body (givesKind headerRow) [] ∷ []) ∷
+    (ruleOf functions noRow (derived function ∷ derived functions ∷ []) ∷
+    ruleOf functions noRow [] ∷ []) ∷
+    (ruleOf function (givesRow functionRow) (kindToken at ∷ token name ∷ derived typeParameters ∷ derived parameters ∷ kindToken arrow ∷
+    derived type ∷ derived block ∷ []) ∷ []) ∷
+    (ruleOf definition (givesKind structRow) (when (query opensStruct) ∷ token name ∷ derived structParameters ∷ kindToken leftBrace ∷
+    derived fields ∷ kindToken rightBrace ∷ []) ∷
+    ruleOf definition (givesKind enumRow) (kindToken bar ∷ token name ∷ kindToken leftBrace ∷ derived variants ∷ kindToken rightBrace ∷
+    []) ∷
+    ruleOf definition (givesKind constantRow) (unless (query opensStruct) ∷ derived mutable ∷ derived type ∷ token name ∷
+    derived literal ∷ []) ∷ []) ∷
+    (ruleOf mutable noRow (kindToken tilde ∷ []) ∷
+    ruleOf mutable noRow [] ∷ []) ∷
+    (ruleOf fields noRow (derived field ∷ derived fields ∷ []) ∷
+    ruleOf fields noRow [] ∷ []) ∷
+    (ruleOf field (givesRow parameterRow) (derived type ∷ derived fieldName ∷ []) ∷ []) ∷
+    (ruleOf fieldName noRow (token name ∷ []) ∷
+    ruleOf fieldName noRow (unless anyName ∷ []) ∷ []) ∷
+    (ruleOf parameters noRow (derived parameter ∷ derived parameters ∷ []) ∷
+    ruleOf parameters noRow [] ∷ []) ∷
+    (ruleOf parameter (givesRow parameterRow) (derived type ∷ token name ∷ []) ∷ []) ∷
+    (ruleOf variants noRow (derived variant ∷ derived variants ∷ []) ∷
+    ruleOf variants noRow [] ∷ []) ∷
+    (ruleOf variant (givesRow variantRow) (when plainName ∷ token name ∷ derived payloadTypes ∷ []) ∷ []) ∷
+    (ruleOf payloadTypes noRow (unless plainName ∷ derived type ∷ derived payloadTypes ∷ []) ∷
+    ruleOf payloadTypes noRow [] ∷ []) ∷
+    (ruleOf typeParameters noRow (when (query opensNames) ∷ derived nameList ∷ []) ∷
+    ruleOf typeParameters noRow (unless (query opensNames) ∷ []) ∷ []) ∷
+    (ruleOf nameList (givesRow listRow) (kindToken leftBracket ∷ token declaredWord ∷ derived moreNames ∷ kindToken rightBracket ∷ []) ∷ []) ∷
+    (ruleOf moreNames noRow (token declaredWord ∷ derived moreNames ∷ []) ∷
+    ruleOf moreNames noRow [] ∷ []) ∷
+    (ruleOf block (givesRow blockRow) (kindToken leftBrace ∷ derived statements ∷ kindToken rightBrace ∷ []) ∷ []) ∷
+    (ruleOf statements noRow (derived statement ∷ derived statements ∷ []) ∷
+    ruleOf statements noRow [] ∷ []) ∷
+    (ruleOf statement noRow (unless aTilde ∷ derived expression ∷ []) ∷
+    ruleOf statement (givesRow letRow) (kindToken colon ∷ derived mutable ∷ derived binding ∷ []) ∷
+    ruleOf statement rowOf (kindToken equal ∷ derived assignment ∷ []) ∷
+    ruleOf statement (givesRow deferRow) (kindToken semicolon ∷ derived block ∷ []) ∷
+    ruleOf statement rowOf (kindToken tilde ∷ derived tildeStatement ∷ []) ∷ []) ∷
+    (ruleOf binding noRow (unless plainName ∷ derived type ∷ token name ∷ derived expression ∷ []) ∷
+    ruleOf binding noRow (when plainName ∷ token name ∷ derived expression ∷ []) ∷ []) ∷
+    (ruleOf assignment (givesKind setNameRow) (token name ∷ derived expression ∷ []) ∷
+    ruleOf assignment (givesKind setElementRow) (kindToken dot ∷ derived expression ∷ derived expression ∷ derived expression ∷ []) ∷ []) ∷
+    (ruleOf tildeStatement (givesKind foreachRow) (when (query twoNames) ∷ token name ∷ derived expression ∷ derived block ∷ []) ∷
+    ruleOf tildeStatement noRow (unless (query twoNames) ∷ derived expression ∷ derived loopOrComplement ∷ []) ∷ []) ∷
+    (ruleOf loopOrComplement (givesKind whileRow) (derived block ∷ []) ∷
+    ruleOf loopOrComplement (givesKind complementRow) (unless aBrace ∷ []) ∷ []) ∷
+    (ruleOf expressions noRow (derived expression ∷ derived expressions ∷ []) ∷
+    ruleOf expressions noRow [] ∷ []) ∷
+    (ruleOf expression noRow (derived literal ∷ []) ∷
+    ruleOf expression (givesRow nameRow) (token name ∷ []) ∷
+    ruleOf expression (givesRow binaryRow) (token operators ∷ derived expression ∷ derived expression ∷ []) ∷
+    ruleOf expression (givesRow notRow) (kindToken bang ∷ derived expression ∷ []) ∷
+    ruleOf expression (givesRow returnRow) (kindToken caret ∷ derived expression ∷ []) ∷
+    ruleOf expression (givesRow complementRow) (kindToken tilde ∷ derived expression ∷ []) ∷
+    ruleOf expression rowOf (kindToken backslash ∷ derived tryOrClosure ∷ []) ∷
+    ruleOf expression (givesRow sizeofRow) (kindToken sizeof ∷ derived type ∷ []) ∷
+    ruleOf expression (givesRow conditionalRow) (kindToken question ∷ derived expression ∷ derived expression ∷ derived expression ∷ []) ∷
+    ruleOf expression noRow (derived block ∷ []) ∷
+    ruleOf expression (givesRow callRow) (kindToken leftParen ∷ token name ∷ derived typeArguments ∷ derived expressions ∷
+    kindToken rightParen ∷ []) ∷
+    ruleOf expression (givesRow sliceRow) (kindToken leftBracket ∷ derived type ∷ kindToken bar ∷ derived expressions ∷
+    kindToken rightBracket ∷ []) ∷
+    ruleOf expression (givesRow aggregateRow) (kindToken at ∷ derived type ∷ kindToken leftBrace ∷ derived expressions ∷
+    kindToken rightBrace ∷ []) ∷
+    ruleOf expression (givesRow memberRow) (kindToken dot ∷ derived expression ∷ derived expression ∷ []) ∷
+    ruleOf expression (givesRow castRow) (kindToken hash ∷ derived castRest ∷ []) ∷
+    ruleOf expression (givesRow matchRow) (kindToken questionQuestion ∷ derived expression ∷ kindToken leftBrace ∷ derived arms ∷
+    kindToken rightBrace ∷ []) ∷ []) ∷
+    (ruleOf literal (givesRow literalRow) (token literals ∷ []) ∷ []) ∷
+    (ruleOf tryOrClosure (givesKind tryRow) (unless (query opensClosure) ∷ derived expression ∷ []) ∷
+    ruleOf tryOrClosure (givesKind closureRow) (when (query opensClosure) ∷ derived parameters ∷ kindToken arrow ∷ derived type ∷
+    derived block ∷ []) ∷ []) ∷
+    (ruleOf typeArguments noRow (when (query opensWords) ∷ derived wordList ∷ []) ∷
+    ruleOf typeArguments noRow (unless (query opensWords) ∷ []) ∷ []) ∷
+    (ruleOf wordList (givesRow listRow) (kindToken leftBracket ∷ token anyWord ∷ derived moreWords ∷ kindToken rightBracket ∷ []) ∷ []) ∷
+    (ruleOf moreWords noRow (token anyWord ∷ derived moreWords ∷ []) ∷
+    ruleOf moreWords noRow [] ∷ []) ∷
+    (ruleOf castRest noRow (when aStar ∷ derived type ∷ derived expression ∷ derived selector ∷ []) ∷
+    ruleOf castRest noRow (unless aStar ∷ derived type ∷ derived expression ∷ []) ∷ []) ∷
+    (ruleOf selector noRow (when (query zeroOrOne) ∷ derived literal ∷ []) ∷
+    ruleOf selector noRow (unless (query zeroOrOne) ∷ []) ∷ []) ∷
+    (ruleOf arms noRow (derived arm ∷ derived arms ∷ []) ∷
+    ruleOf arms noRow [] ∷ []) ∷
+    (ruleOf arm (givesRow armRow) (token declaredWord ∷ derived payloads3 ∷ kindToken arrow ∷ derived expression ∷ []) ∷ []) ∷
+    (ruleOf payloads3 noRow (derived payload ∷ derived payloads2 ∷ []) ∷
+    ruleOf payloads3 noRow [] ∷ []) ∷
+    (ruleOf payloads2 noRow (derived payload ∷ derived payloads1 ∷ []) ∷
+    ruleOf payloads2 noRow [] ∷ []) ∷
+    (ruleOf payloads1 noRow (derived payload ∷ []) ∷
+    ruleOf payloads1 noRow [] ∷ []) ∷
+    (ruleOf payload (givesRow payloadRow) (token payloadToken ∷ []) ∷ []) ∷
+    (ruleOf types noRow (derived type ∷ derived types ∷ []) ∷
+    ruleOf types noRow [] ∷ []) ∷
+    (ruleOf type (givesRow baseTypeRow) (kindToken keyword ∷ []) ∷
+    ruleOf type (givesRow pointerRow) (kindToken star ∷ derived type ∷ []) ∷
+    ruleOf type (givesRow optionalRow) (kindToken question ∷ derived type ∷ []) ∷
+    ruleOf type (givesRow sliceTypeRow) (kindToken leftBracket ∷ derived type ∷ []) ∷
+    ruleOf type (givesRow resultRow) (kindToken bang ∷ derived type ∷ derived type ∷ []) ∷
+    ruleOf type rowOf (kindToken leftParen ∷ derived parenthesized ∷ []) ∷
+    ruleOf type (givesRow namedTypeRow) (token declaredWord ∷ []) ∷ []) ∷
+    (ruleOf parenthesized (givesKind functionTypeRow) (kindToken at ∷ derived type ∷ derived types ∷ kindToken rightParen ∷ []) ∷
+    ruleOf parenthesized (givesKind instanceRow) (token name ∷ token anyWord ∷ derived moreWords ∷ kindToken rightParen ∷ []) ∷ []) ∷
+    (ruleOf structParameters noRow (when (query opensStructNames) ∷ derived nameList ∷ []) ∷
+    ruleOf structParameters noRow (unless (query opensStructNames) ∷ []) ∷ []) ∷
     []
 
 -- the productions of a nonterminal
@@ -192,7 +201,7 @@ number-same c b x =
 
 -- .. that a token of a kind begins; to unfold it opens all that it computes with
 unfoldable pub kindNumber : ℕ → ℕ → ℕ
-unfolding and or among agrees asked met allows skips starts anyOf ready groupList groups17 emptyBy firstBy numberOf numberElse
+unfolding and or among agrees asked met allows skips starts anyOf ready groupList groups17 emptyBy firstBy alternativeNumber numberElse
     alternativeBy
 kindNumber x kind =
     let number = number17 kind false x in

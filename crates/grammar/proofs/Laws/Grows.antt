@@ -6,10 +6,11 @@ use mathlib.Core.Bool.{Bool, true, false}
 use mathlib.Core.List.{List, [], _∷_}
 use native.Mathlib.Omega.{arith}
 use Rattle.lexer.specs.Tests.{pick, among}
-use Rattle.grammar.specs.Grammars.{Symbol, token, part, condition, Production, Names, View, met}
-use Rattle.grammar.specs.Rows.{Row, levels}
+use Rattle.grammar.specs.Grammars.{Symbol, token, derived, condition, Production, Names, View, met}
+use Rattle.tree.specs.TreeTable.{Row}
+use Rattle.grammar.specs.Rows.{levels}
 use Rattle.grammar.specs.Derivations.{Derives, end, taken, held, entered}
-use Rattle.grammar.specs.Reading.{Outcome, ok, stuck, deep, spent, Choice, none, one, choice, onward, descend, enter, joined}
+use Rattle.grammar.specs.Reading.{Outcome, ok, stuck, deep, spent, Choice, none, selected, choice, onward, descend, enter, joined}
 use Rattle.grammar.specs.Reading.{readWithin}
 
 pub data Way : Type 0 where
@@ -69,7 +70,7 @@ pub grows-enter : {w : Way} (c : Choice) (left room i : ℕ) (within more : Prod
     → Grows w (enter c left i within) (enter c room i more)
 unfolding enter
 grows-enter none left room i within more f = same
-grows-enter (one p) left room i within more f = f p
+grows-enter (selected p) left room i within more f = f p
 
 module _ (g : List Production) (v : View) where
   -- the reading of a nonterminal and of what comes after it, given how both grow
@@ -95,7 +96,7 @@ module _ (g : List Production) (v : View) where
       grows-pick (among cs (v .class e i)) _ _ i (more-fuel fuel more (omega arith) e n ss (suc i))
   more-fuel (suc fuel) (suc more) h e n (condition b q ∷ ss) i =
       grows-pick (met v e i b q) _ _ i (more-fuel fuel more (omega arith) e n ss i)
-  more-fuel (suc fuel) (suc more) h e n (part x ∷ ss) i =
+  more-fuel (suc fuel) (suc more) h e n (derived x ∷ ss) i =
       grows-enter (choice g v (v .inside x i e) x i) n n i _ _ (λ (p : Production).
       grows-descend (levels (p .makes)) n i _ _ (λ (left : ℕ).
       grows-part x i n n left left e ss p fuel more
@@ -111,7 +112,7 @@ module _ (g : List Production) (v : View) where
       grows-pick (among cs (v .class e i)) _ _ i (more-levels fuel n m h e ss (suc i))
   more-levels (suc fuel) n m h e (condition b q ∷ ss) i =
       grows-pick (met v e i b q) _ _ i (more-levels fuel n m h e ss i)
-  more-levels (suc fuel) n m h e (part x ∷ ss) i =
+  more-levels (suc fuel) n m h e (derived x ∷ ss) i =
       grows-enter (choice g v (v .inside x i e) x i) n m i _ _ (λ (p : Production).
       grows-deeper (levels (p .makes)) n m i _ _ h (λ (left room : ℕ) (k : left ≤ room).
       grows-part x i n m left room e ss p fuel fuel

@@ -1,16 +1,8 @@
--- The constants of row kinds, nonterminals and questions are the positions of their names. Assumes nothing.
+-- The constants of nonterminals and questions are the positions of their names. Assumes nothing.
 use mathlib.Core.Path.{_≡_, refl}
 use mathlib.Core.List.{[], _∷_, map}
-use Rattle.grammar.specs.RowKinds.{rowKinds, rowKind}
 use Rattle.grammar.specs.Nonterminals.{nonterminals, nonterminal}
 use Rattle.grammar.specs.Nurl.{questionNames, questionNumber}
-use Rattle.grammar.specs.internal.RowKinds.{programRow, importRow, foreignRow, traitRow, implRow, functionRow, structRow, enumRow}
-use Rattle.grammar.specs.internal.RowKinds.{constantRow, headerRow, parameterRow, variantRow, listRow, blockRow, letRow, setNameRow}
-use Rattle.grammar.specs.internal.RowKinds.{setElementRow, deferRow, whileRow, foreachRow, literalRow, nameRow, binaryRow, notRow}
-use Rattle.grammar.specs.internal.RowKinds.{returnRow, complementRow, tryRow, closureRow, sizeofRow, aggregateRow, sliceRow}
-use Rattle.grammar.specs.internal.RowKinds.{conditionalRow, callRow, memberRow, castRow, matchRow, armRow, payloadRow, baseTypeRow}
-use Rattle.grammar.specs.internal.RowKinds.{pointerRow, optionalRow, sliceTypeRow, resultRow, functionTypeRow, instanceRow}
-use Rattle.grammar.specs.internal.RowKinds.{namedTypeRow}
 use Rattle.grammar.specs.internal.Nonterminals.{program, declarations, declaration, alias, interface, interfaceRest, methods}
 use Rattle.grammar.specs.internal.Nonterminals.{method, body, functions, function, definition, mutable, fields, field, fieldName}
 use Rattle.grammar.specs.internal.Nonterminals.{parameters, parameter, variants, variant, payloadTypes, typeParameters, nameList}
@@ -18,15 +10,8 @@ use Rattle.grammar.specs.internal.Nonterminals.{moreNames, block, statem
 use Rattle.grammar.specs.internal.Nonterminals.{loopOrComplement, expressions, expression, literal, tryOrClosure, typeArguments}
 use Rattle.grammar.specs.internal.Nonterminals.{wordList, moreWords, castRest, selector, arms, arm, payloads3, payloads2, payloads1}
 use Rattle.grammar.specs.internal.Nonterminals.{payload, types, type, parenthesized, structParameters}
-use Rattle.grammar.specs.internal.Nurl.{opensNames, opensWords, opensStruct, twoNames, opensClosure, zeroOrOne, opensStructNames}
-
-pub row-kinds-named : map rowKind rowKinds ≡
-    programRow ∷ importRow ∷ foreignRow ∷ traitRow ∷ implRow ∷ functionRow ∷ structRow ∷ enumRow ∷ constantRow ∷ headerRow ∷
-    parameterRow ∷ variantRow ∷ listRow ∷ blockRow ∷ letRow ∷ setNameRow ∷ setElementRow ∷ deferRow ∷ whileRow ∷ foreachRow ∷
-    literalRow ∷ nameRow ∷ binaryRow ∷ notRow ∷ returnRow ∷ complementRow ∷ tryRow ∷ closureRow ∷ sizeofRow ∷ aggregateRow ∷ sliceRow ∷
-    conditionalRow ∷ callRow ∷ memberRow ∷ castRow ∷ matchRow ∷ armRow ∷ payloadRow ∷ baseTypeRow ∷ pointerRow ∷ optionalRow ∷
-    sliceTypeRow ∷ resultRow ∷ functionTypeRow ∷ instanceRow ∷ namedTypeRow ∷ []
-row-kinds-named = refl
+use Rattle.grammar.specs.internal.Productions.{opensNames, opensWords, opensStruct, twoNames, opensClosure, zeroOrOne}
+use Rattle.grammar.specs.internal.Productions.{opensStructNames}
 
 pub nonterminals-named : map nonterminal nonterminals ≡
     program ∷ declarations ∷ declaration ∷ alias ∷ interface ∷ interfaceRest ∷ methods ∷ method ∷ body ∷ functions ∷ function ∷

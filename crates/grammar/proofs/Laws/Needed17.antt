@@ -10,16 +10,15 @@ use lib.ListN.{length}
 use Rattle.lexer.specs.Tests.{and, or, pick, among}
 use Rattle.lexer.specs.Spellings.{same}
 use Rattle.lexer.specs.internal.Kinds.{ident, keyword, int, tilde, leftBrace, leftBracket, star}
-use Rattle.grammar.specs.Grammars.{Condition, next, query, Symbol, token, part, condition, when, unless, Production, agrees}
+use Rattle.grammar.specs.Grammars.{Condition, next, query, Symbol, token, derived, condition, when, unless, Production, agrees}
 use Rattle.grammar.specs.First.{allows, skips, starts, anyOf, emptyWithin, firstWithin, empty, first, canBegin, canSkip}
 use Rattle.grammar.specs.Classes.{typeName}
 use Rattle.grammar.specs.internal.Nonterminals.{definition, fieldName, variant, payloadTypes, typeParameters, statement, binding}
 use Rattle.grammar.specs.internal.Nonterminals.{tildeStatement, loopOrComplement, tryOrClosure, typeArguments, castRest, selector}
 use Rattle.grammar.specs.internal.Nonterminals.{structParameters}
-use Rattle.grammar.specs.Nurl.{plainName, anyName}
-use Rattle.grammar.specs.internal.Nurl.{aTilde, aBrace, aStar, opensNames, opensWords, opensStruct, twoNames}
-use Rattle.grammar.specs.Nurl.{productions}
-use Rattle.grammar.specs.internal.Nurl.{opensClosure, zeroOrOne, opensStructNames}
+use Rattle.grammar.specs.Nurl.{plainName, anyName, productions}
+use Rattle.grammar.specs.internal.Productions.{aTilde, aBrace, aStar, opensNames, opensWords, opensStruct, twoNames, opensClosure}
+use Rattle.grammar.specs.internal.Productions.{zeroOrOne, opensStructNames}
 use Rattle.grammar.proofs.Laws.Checks.{implies, every, may, flows, followClosed, live, asks, opposed, excludes, exclusive}
 use Rattle.grammar.proofs.Laws.Table17.{hints17}
 
@@ -76,12 +75,12 @@ sameCondition (query q) (query r) = eqb q r
 
 unfoldable pub isOne : Bool → Condition → Symbol → Bool
 isOne b q (token cs) = false
-isOne b q (part x) = false
+isOne b q (derived x) = false
 isOne b q (condition a r) = and (agrees a b) (sameCondition q r)
 
 unfoldable pub is : Symbol → Symbol → Bool
 is (token cs) t = false
-is (part x) t = false
+is (derived x) t = false
 is (condition b q) t = isOne b q t
 
 -- symbols without a condition at their front, and whether it stands there
@@ -127,7 +126,7 @@ needed17 = refl
 unfoldable pub conditions : List Symbol → ℕ
 conditions [] = 0
 conditions (token cs ∷ ss) = conditions ss
-conditions (part x ∷ ss) = conditions ss
+conditions (derived x ∷ ss) = conditions ss
 conditions (condition b q ∷ ss) = suc (conditions ss)
 
 unfoldable pub allConditions : List Production → ℕ

@@ -5,13 +5,10 @@ use mathlib.Core.List.{List}
 use Rattle.lexer.specs.Editions.{edition17}
 use Rattle.lexer.specs.Tokens.{Token, cleanly, scan}
 use Rattle.lexer.proofs.Laws.Counts.{spelled17}
-use Rattle.grammar.specs.internal.RowKinds.{programRow, namedTypeRow}
+use Rattle.tree.specs.internal.RowKinds.{programRow, namedTypeRow}
 use Rattle.grammar.specs.Languages.{language17}
-use Rattle.grammar.specs.Answers.{levelLimit, answer17}
-use Rattle.grammar.specs.Demands.{MeetsDemands}
 use Rattle.grammar.proofs.Laws.Table17.{hints17, passes17, steady17}
 use Rattle.grammar.proofs.Laws.Sources.{Fit, Theorems, theorems}
-use Rattle.grammar.proofs.Laws.Answers.{answered-demands}
 
 unfoldable pub fit17 : Fit language17
 fit17 = record { marks = spelled17; hints = hints17; tests = passes17; steady = steady17 }
@@ -21,7 +18,3 @@ pub theorems17 : (source names : List ℕ) (ts : List Token) → scan edition17 
     → Theorems language17 source names ts namedTypeRow programRow
 unfolding fit17 hints17
 theorems17 = theorems language17 fit17
-
--- the answer for grammar 1.7 meets the three demands
-pub answer17-meets : MeetsDemands answer17
-answer17-meets source names tokens rows = answered-demands language17 source names levelLimit tokens rows fit17

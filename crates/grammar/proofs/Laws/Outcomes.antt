@@ -7,8 +7,9 @@ use mathlib.Core.List.{List}
 use native.Mathlib.Omega.{arith}
 use Rattle.lexer.specs.Tests.{pick}
 use Rattle.grammar.specs.Grammars.{Production}
-use Rattle.grammar.specs.Rows.{Row, levels}
-use Rattle.grammar.specs.Reading.{Outcome, ok, stuck, deep, spent, Choice, none, one, onward, descend, enter}
+use Rattle.tree.specs.TreeTable.{Row}
+use Rattle.grammar.specs.Rows.{levels}
+use Rattle.grammar.specs.Reading.{Outcome, ok, stuck, deep, spent, Choice, none, selected, onward, descend, enter}
 
 pub data Ends (P : ℕ → List Row → ℕ → Type 0) (K D : ℕ → Type 0) (S : Type 0) : Outcome → Type 0 where
   upTo : {j said : ℕ} {rows : List Row} → P j rows said → Ends P K D S (ok j rows said)
@@ -64,12 +65,12 @@ module _ {P : ℕ → List Row → ℕ → Type 0} {K D : ℕ → Type 0} {S : T
       ends-descend l left i below (λ (h : left < l). d (omega arith)) (λ (n : ℕ) (h : left ≡ l + n). f n (omega arith))
 
   pub ends-enter : (c : Choice) (left i : ℕ) (within : Production → ℕ → Outcome) → K i
-      → ((p : Production) → c ≡ one p → left < levels (p .makes) → D i)
-      → ((p : Production) (below : ℕ) → c ≡ one p → left ≡ levels (p .makes) + below → Ends P K D S (within p below))
+      → ((p : Production) → c ≡ selected p → left < levels (p .makes) → D i)
+      → ((p : Production) (below : ℕ) → c ≡ selected p → left ≡ levels (p .makes) + below → Ends P K D S (within p below))
       → Ends P K D S (enter c left i within)
   unfolding enter
   ends-enter none left i within k d f = atStuck k
-  ends-enter (one p) left i within k d f =
+  ends-enter (selected p) left i within k d f =
       ends-descend (levels (p .makes)) left i (within p) (d p refl) (λ (below : ℕ). f p below refl)
 
 -- of the tokens where it stops, nothing

@@ -9,11 +9,12 @@ use lib.Dec.{eqb, ltb}
 use borrow.Author.Tests.{lt-ltb}
 use Rattle.lexer.specs.Tests.{or, among}
 use Rattle.lexer.proofs.Laws.Tests.{and-left, and-right, or-else}
-use Rattle.grammar.specs.Grammars.{endOfTokens, next, Symbol, token, part, condition, when, Makes, row, rowOf, says, noRow}
-use Rattle.grammar.specs.Grammars.{Production, Names, View, agrees, met}
-use Rattle.grammar.specs.Rows.{Row, levels}
+use Rattle.grammar.specs.Grammars.{endOfTokens, next, Symbol, token, derived, condition, when, Makes, givesRow, rowOf, givesKind}
+use Rattle.grammar.specs.Grammars.{noRow, Production, Names, View, agrees, met}
+use Rattle.tree.specs.TreeTable.{Row}
+use Rattle.grammar.specs.Rows.{levels}
 use Rattle.grammar.specs.First.{canBegin, canSkip}
-use Rattle.grammar.specs.Reading.{Outcome, stuck, deep, one, choice, joined, readWithin, breadth, whole, reading}
+use Rattle.grammar.specs.Reading.{Outcome, stuck, deep, selected, choice, joined, readWithin, breadth, whole, reading}
 use Rattle.grammar.proofs.Laws.Checks.{Hints, implies, noEnd, falls, beforeEnd, without, Passes}
 use Rattle.grammar.proofs.Laws.CheckLaws.{implies-true, every-has}
 use Rattle.grammar.proofs.Laws.Outcomes.{Ends, upTo, out, ends-stuck, ends-deep, ends-pick, ends-onward, ends-enter}
@@ -28,9 +29,9 @@ not-both false a h = let z : _≡_ {A = ℕ} 0 1 = cc in absurd (omega arith)
 
 one-level : (m : Makes) → levels m ≤ 1
 unfolding levels
-one-level (row kind) = omega arith
+one-level (givesRow kind) = omega arith
 one-level rowOf = omega arith
-one-level (says kind) = omega arith
+one-level (givesKind kind) = omega arith
 one-level noRow = omega arith
 
 -- where an outcome stands in a list of so many tokens, of a reading that has n levels
@@ -42,7 +43,7 @@ Stands count n =
 module _ (g : List Production) (h : Hints) (bound x : ℕ) (tests : Passes g h bound x) (v : View) (count : ℕ) (tokens : Counted v count)
     (n : ℕ) where
   -- a production that takes a level, of another nonterminal than the start, is chosen at a token
-  level-at : (e : Names) (y i : ℕ) (p : Production) → choice g v e y i ≡ one p → agrees false (eqb y x) ≡ true
+  level-at : (e : Names) (y i : ℕ) (p : Production) → choice g v e y i ≡ selected p → agrees false (eqb y x) ≡ true
       → 1 ≤ levels (p .makes) → i < count
   unfolding beforeEnd
   level-at e y i p c other l =
@@ -63,11 +64,11 @@ module _ (g : List Production) (h : Hints) (bound x : ℕ) (tests : Passes g h b
       → Stands count n (readWithin g v f e left ss i)
 
   part-stands : (f : ℕ) → AllStand f → (e : Names) (left y : ℕ) (ss : List Symbol) (i : ℕ) → noEnd ss ≡ true → without x ss ≡ true
-      → i ≤ count → ((p : Production) → choice g v (v .inside y i e) y i ≡ one p → left < levels (p .makes) → 1 ≤ n → i < count)
-      → Stands count n (readWithin g v (suc f) e left (part y ∷ ss) i)
+      → i ≤ count → ((p : Production) → choice g v (v .inside y i e) y i ≡ selected p → left < levels (p .makes) → 1 ≤ n → i < count)
+      → Stands count n (readWithin g v (suc f) e left (derived y ∷ ss) i)
   unfolding readWithin joined
   part-stands f all e left y ss i a b l d =
-      ends-enter (choice g v (v .inside y i e) y i) left i _ l d (λ (p : Production) (below : ℕ) (c : choice g v (v .inside y i e) y i ≡ one p)
+      ends-enter (choice g v (v .inside y i e) y i) left i _ l d (λ (p : Production) (below : ℕ) (c : choice g v (v .inside y i e) y i ≡ selected p)
       (fits : left ≡ levels (p .makes) + below).
       let has = chosen g v (v .inside y i e) y i p c .0 in
       let w = suc (breadth g) in
@@ -88,10 +89,10 @@ module _ (g : List Production) (h : Hints) (bound x : ℕ) (tests : Passes g h b
       within-stands f e left ss (suc i) (and-right (agrees false (among cs 0)) (noEnd ss) a) b (omega arith))
   within-stands (suc f) e left (condition c q ∷ ss) i a b l =
       ends-pick (met v e i c q) (readWithin g v f e left ss i) i l (λ (t : met v e i c q ≡ true). within-stands f e left ss i a b l)
-  within-stands (suc f) e left (part y ∷ ss) i a b l =
+  within-stands (suc f) e left (derived y ∷ ss) i a b l =
       let other = and-left (agrees false (eqb y x)) (without x ss) b in
       part-stands f (within-stands f) e left y ss i a (and-right (agrees false (eqb y x)) (without x ss) b) l
-      (λ (p : Production) (c : choice g v (v .inside y i e) y i ≡ one p) (m : left < levels (p .makes)) (some : 1 ≤ n).
+      (λ (p : Production) (c : choice g v (v .inside y i e) y i ≡ selected p) (m : left < levels (p .makes)) (some : 1 ≤ n).
       level-at (v .inside y i e) y i p c other (omega arith))
 
   -- the start, which takes at most one level, and then the end of the tokens
@@ -100,7 +101,7 @@ module _ (g : List Production) (h : Hints) (bound x : ℕ) (tests : Passes g h b
   whole-stands zero e = out tt
   whole-stands (suc f) e =
       part-stands f (within-stands f) e n x (when (next (endOfTokens ∷ [])) ∷ []) 0 refl refl (omega arith)
-      (λ (p : Production) (c : choice g v (v .inside x 0 e) x 0 ≡ one p) (m : n < levels (p .makes)) (some : 1 ≤ n).
+      (λ (p : Production) (c : choice g v (v .inside x 0 e) x 0 ≡ selected p) (m : n < levels (p .makes)) (some : 1 ≤ n).
       let most = one-level (p .makes) in
       absurd (omega arith))
 

@@ -9,8 +9,8 @@ use lib.ListN.{length}
 use borrow.Author.Tests.{eqb-true}
 use Rattle.lexer.specs.Tests.{and, or, among}
 use Rattle.lexer.proofs.Laws.Tests.{and-left, and-right, or-else}
-use Rattle.grammar.specs.Grammars.{endOfTokens, next, Symbol, part, when, Production, Names, View, agrees, asked, met}
-use Rattle.grammar.specs.Rows.{Row}
+use Rattle.grammar.specs.Grammars.{endOfTokens, next, Symbol, derived, when, Production, Names, View, agrees, asked, met}
+use Rattle.tree.specs.TreeTable.{Row}
 use Rattle.grammar.specs.Derivations.{Derives, end, taken, held, entered, Derivation, derivation}
 use Rattle.grammar.specs.First.{allows, skips, starts}
 use Rattle.grammar.specs.Reading.{Outcome, ok, stuck, deep, spent, breadth, whole, readWithin, reading}
@@ -50,12 +50,12 @@ may-end g (suc c) m =
     absurd (omega arith)
 
 -- a nonterminal derived up to the end of the tokens, and back
-whole-of : {g : List Production} {v : View} {e : Names} {n x j said : ℕ} {rows : List Row} → Derives g v e n (part x ∷ []) 0 j rows said
+whole-of : {g : List Production} {v : View} {e : Names} {n x j said : ℕ} {rows : List Row} → Derives g v e n (derived x ∷ []) 0 j rows said
     → v .class e j ≡ endOfTokens → Derives g v e n (whole x) 0 j rows said
 whole-of {v = v} {e = e} {j = j} (entered has of fits inner end) h = entered has of fits inner (held (at-end v e j h) end)
 
 of-whole : {g : List Production} {v : View} {e : Names} {n x j said : ℕ} {rows : List Row} → Derives g v e n (whole x) 0 j rows said
-    → (Derives g v e n (part x ∷ []) 0 j rows said) × (v .class e j ≡ endOfTokens)
+    → (Derives g v e n (derived x ∷ []) 0 j rows said) × (v .class e j ≡ endOfTokens)
 of-whole {v = v} {e = e} {j = j} (entered has of fits inner (held t end)) = (entered has of fits inner end, ended-at v e j t)
 
 -- no derivation goes past the last token
@@ -85,7 +85,7 @@ module _ (g : List Production) (h : Hints) (bound x : ℕ) (tests : Passes g h b
       let most = derives-within g v h (suc (breadth g)) count (tests .falling) tokens d refl (omega arith) in
       let least : ¬ (j < count) = λ (l : j < count). tokens .inside e j l ended in
       let all : j ≡ count = omega arith in
-      (all, derivation (subst (λ (k : ℕ). Derives g v e n (part x ∷ []) 0 k rows said) all d))
+      (all, derivation (subst (λ (k : ℕ). Derives g v e n (derived x ∷ []) 0 k rows said) all d))
 
   -- what comes after the start may follow it
   start-flows : Flows g v h bound (tests .closed) steady (λ (c : ℕ). true) (whole x)
@@ -100,7 +100,7 @@ module _ (g : List Production) (h : Hints) (bound x : ℕ) (tests : Passes g h b
   reading-unspent n = never-spent g v h count (tokens .past) x (tests .start) (tests .falling) e n
 
   -- 2. Complete: a derivation within the levels is what is read, with exactly its rows.
-  pub reading-complete : (n said : ℕ) (rows : List Row) → Derives g v e n (part x ∷ []) 0 count rows said
+  pub reading-complete : (n said : ℕ) (rows : List Row) → Derives g v e n (derived x ∷ []) 0 count rows said
       → reading g v count e n x ≡ ok count rows said
   unfolding reading
   reading-complete n said rows d =

@@ -5,10 +5,11 @@ use mathlib.Core.Path.{_≡_, subst}
 use mathlib.Core.Bool.{true}
 use mathlib.Core.List.{List, [], _∷_}
 use Rattle.lexer.specs.Tests.{among}
-use Rattle.grammar.specs.Grammars.{Symbol, token, part, condition, Production, Names, View, met}
-use Rattle.grammar.specs.Rows.{Row, levels}
+use Rattle.grammar.specs.Grammars.{Symbol, token, derived, condition, Production, Names, View, met}
+use Rattle.tree.specs.TreeTable.{Row}
+use Rattle.grammar.specs.Rows.{levels}
 use Rattle.grammar.specs.Derivations.{Derives, end, taken, held, entered}
-use Rattle.grammar.specs.Reading.{ok, one, choice, joined, readWithin}
+use Rattle.grammar.specs.Reading.{ok, selected, choice, joined, readWithin}
 use Rattle.grammar.proofs.Laws.Choices.{chosen}
 use Rattle.grammar.proofs.Laws.Outcomes.{Ends, Anywhere, upTo, out, ends-ok, ends-over, ends-pick, ends-onward, ends-enter}
 
@@ -23,8 +24,8 @@ module _ (g : List Production) (v : View) where
   derives (suc fuel) e n (condition b q ∷ ss) i =
       ends-pick (met v e i b q) (readWithin g v fuel e n ss i) i tt (λ (t : met v e i b q ≡ true).
       ends-over (derives fuel e n ss i) (λ (j : ℕ) (rows : List Row) (said : ℕ). held t))
-  derives (suc fuel) e n (part x ∷ ss) i =
-      ends-enter (choice g v (v .inside x i e) x i) n i _ tt (λ p c l. tt) (λ (p : Production) (left : ℕ) (c : choice g v (v .inside x i e) x i ≡ one p)
+  derives (suc fuel) e n (derived x ∷ ss) i =
+      ends-enter (choice g v (v .inside x i e) x i) n i _ tt (λ p c l. tt) (λ (p : Production) (left : ℕ) (c : choice g v (v .inside x i e) x i ≡ selected p)
       (fits : n ≡ levels (p .makes) + left).
       let (has, of) = chosen g v (v .inside x i e) x i p c in
       ends-onward _ (derives fuel (v .inside x i e) left (p .right) i)

@@ -8,9 +8,9 @@ use lib.ListN.{length}
 use Rattle.lexer.specs.Tokens.{Token, cleanly, scan}
 use Rattle.lexer.proofs.Laws.Sizes.{spelled}
 use Rattle.lexer.proofs.Laws.Places.{tokens-placed}
-use Rattle.typenames.specs.TypeNames.{Item, items}
-use Rattle.grammar.specs.Grammars.{part, Production, View}
-use Rattle.grammar.specs.Rows.{Row}
+use Rattle.lexer.specs.Items.{Item, items}
+use Rattle.grammar.specs.Grammars.{derived, Production, View}
+use Rattle.tree.specs.TreeTable.{Row}
 use Rattle.grammar.specs.Derivations.{Derives, derivation}
 use Rattle.grammar.specs.Forests.{Forest}
 use Rattle.grammar.specs.Reading.{Outcome, ok, stuck, deep, spent, whole, readWithin}
@@ -21,7 +21,7 @@ use Rattle.grammar.proofs.Laws.Follow.{Steady}
 use Rattle.grammar.proofs.Laws.Grows.{Grows, byLevels}
 use Rattle.grammar.proofs.Laws.Takes.{from, allTaken, takes-once}
 use Rattle.grammar.proofs.Laws.Forests.{forest as trees}
-use Rattle.grammar.proofs.Laws.RowKinds.{KindsTo, kinds-known, Top, one-top}
+use Rattle.grammar.proofs.Laws.KnownKinds.{KindsTo, kinds-known, Top, one-top}
 use Rattle.grammar.proofs.Laws.Readings.{Counted, reading-sound, reading-unspent, reading-complete, derivations-same, reading-from}
 use Rattle.grammar.proofs.Laws.Readings.{reading-grows, stuck-none as no-stuck, deep-none as no-deep, derivation-few}
 use Rattle.grammar.proofs.Laws.Places.{stuck-at as stuck-place, deep-at as deep-place}
@@ -93,7 +93,7 @@ module _ (l : Language) (fit : Fit l) (source names : List ℕ) (ts : List Token
 
   -- what is shown of all that the start derives holds of a derivation
   of-derived : {P : Type 0} {n : ℕ} {rs : List Row}
-      → ((said : ℕ) → Derives g v (namesOf l source names ts) n (part x ∷ []) 0 (length ts) rs said → P)
+      → ((said : ℕ) → Derives g v (namesOf l source names ts) n (derived x ∷ []) 0 (length ts) rs said → P)
       → DerivationOf l source names ts n rs → P
   of-derived shows (derivation {said = said} d) = shows said d
 

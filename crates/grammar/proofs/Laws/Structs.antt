@@ -12,18 +12,19 @@ use borrow.Author.Tests.{eqb-true, eq-eqb, ne-eqb}
 use Rattle.lexer.specs.Tests.{and, or, pick, among}
 use Rattle.lexer.specs.internal.Kinds.{ident, leftBrace, leftBracket, lastKind}
 use Rattle.lexer.proofs.Laws.Tests.{or-false, and-left, or-left, or-right}
-use Rattle.typenames.specs.TypeNames.{Item, opening17, isNamed}
-use Rattle.grammar.specs.Grammars.{query, Symbol, token, part, condition, when, unless, row, noRow, Production, Names}
-use Rattle.grammar.specs.Grammars.{View, agrees, asked, met}
-use Rattle.grammar.specs.Rows.{Row}
+use Rattle.lexer.specs.Items.{Item}
+use Rattle.typenames.specs.TypeNames.{opening17, isNamed}
+use Rattle.grammar.specs.Grammars.{query, Symbol, token, derived, condition, when, unless, givesRow, noRow, Production, Names, View}
+use Rattle.grammar.specs.Grammars.{agrees, asked, met}
+use Rattle.tree.specs.TreeTable.{Row}
 use Rattle.grammar.specs.Derivations.{Has, here, there, Derives, end, taken, held, entered}
-use Rattle.grammar.specs.internal.RowKinds.{namedTypeRow}
+use Rattle.tree.specs.internal.RowKinds.{namedTypeRow}
 use Rattle.grammar.specs.internal.Nonterminals.{mutable, nameList, type, structParameters}
 use Rattle.grammar.specs.Classes.{typeName}
 use Rattle.grammar.specs.internal.Classes.{name, typeWord}
 use Rattle.grammar.specs.Questions.{oneOf, fits, fitsOne, answerTo}
 use Rattle.grammar.specs.Nurl.{questions17, productions}
-use Rattle.grammar.specs.internal.Nurl.{one, rule, opensStruct, opensStructNames}
+use Rattle.grammar.specs.internal.Productions.{kindToken, ruleOf, opensStruct, opensStructNames}
 use Rattle.grammar.specs.Languages.{Language, language17, noItem, classOf, view}
 use Rattle.grammar.proofs.Laws.Views.{Kinds, kinds-none, kinds-more}
 use Rattle.grammar.proofs.Laws.Patterns.{among-one, fits-at}
@@ -74,31 +75,31 @@ module _ (x : ℕ) (test : List Symbol → Bool) where
 unfoldable atName : List Symbol → Bool
 atName [] = true
 atName (token cs ∷ ss) = or (among cs ident) (among cs typeName)
-atName (part x ∷ ss) = true
+atName (derived x ∷ ss) = true
 atName (condition b q ∷ ss) = true
 
 -- there `mutable` has only its empty production and `type` only the named type
-mutable17 : those mutable atName productions ≡ rule mutable noRow [] ∷ []
+mutable17 : those mutable atName productions ≡ ruleOf mutable noRow [] ∷ []
 unfolding and or among productions those atName
 mutable17 = refl
 
-type17 : those type atName productions ≡ rule type (row namedTypeRow) (token typeWord ∷ []) ∷ []
+type17 : those type atName productions ≡ ruleOf type (givesRow namedTypeRow) (token typeWord ∷ []) ∷ []
 unfolding and or among productions those atName
 type17 = refl
 
 none-taken : {g : List Production} {v : View} {e : Names} {n i j said : ℕ} {p : Production} {rows : List Row}
-    → Has (rule mutable noRow [] ∷ []) p → Derives g v e n (p .right) i j rows said → j ≡ i
+    → Has (ruleOf mutable noRow [] ∷ []) p → Derives g v e n (p .right) i j rows said → j ≡ i
 none-taken here end = refl
 
 one-taken : {g : List Production} {v : View} {e : Names} {n i j said : ℕ} {p : Production} {rows : List Row}
-    → Has (rule type (row namedTypeRow) (token typeWord ∷ []) ∷ []) p → Derives g v e n (p .right) i j rows said → j ≡ suc i
+    → Has (ruleOf type (givesRow namedTypeRow) (token typeWord ∷ []) ∷ []) p → Derives g v e n (p .right) i j rows said → j ≡ suc i
 one-taken here (taken h end) = refl
 
 -- the productions of `structParameters`
 abbrev lists : List Production
 lists =
-    rule structParameters noRow (when (query opensStructNames) ∷ part nameList ∷ []) ∷
-    rule structParameters noRow (unless (query opensStructNames) ∷ []) ∷ []
+    ruleOf structParameters noRow (when (query opensStructNames) ∷ derived nameList ∷ []) ∷
+    ruleOf structParameters noRow (unless (query opensStructNames) ∷ []) ∷ []
 
 lists17 : those structParameters (λ ss. true) productions ≡ lists
 unfolding and productions those
@@ -137,7 +138,7 @@ module _ (l : Language) (opens : Opens l) (ts : List Item) where
 
   -- a struct
   pub struct-asked : Kinds ts → {e : Names} {n i j said : ℕ} {ss : List Symbol} {rows : List Row}
-      → Derives productions (view l ts) e n (token name ∷ part structParameters ∷ one leftBrace ∷ ss) i j rows said
+      → Derives productions (view l ts) e n (token name ∷ derived structParameters ∷ kindToken leftBrace ∷ ss) i j rows said
       → view l ts .holds opensStruct i ≡ true
   unfolding view and among or
   struct-asked kinds (taken {e = e} {i = i} h (entered {j = j} has left level inner (taken b d))) =
@@ -147,7 +148,7 @@ module _ (l : Language) (opens : Opens l) (ts : List Item) where
 
   -- a constant: if its first token is an IDENT, so is the second
   pub constant-asked : Kinds ts → {e : Names} {n i j said : ℕ} {ss : List Symbol} {rows : List Row}
-      → Derives productions (view l ts) e n (part mutable ∷ part type ∷ token name ∷ ss) i j rows said
+      → Derives productions (view l ts) e n (derived mutable ∷ derived type ∷ token name ∷ ss) i j rows said
       → view l ts .holds opensStruct i ≡ false
   unfolding view and among or
   constant-asked kinds (entered {e = e} {i = i} m left level first (entered {j = k} t also deep second (taken h d))) =

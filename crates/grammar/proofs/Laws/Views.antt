@@ -12,7 +12,8 @@ use Rattle.lexer.specs.internal.Kinds.{ident, firstKind, lastKind}
 use Rattle.lexer.specs.Editions.{Edition}
 use Rattle.lexer.specs.Tokens.{Token}
 use Rattle.lexer.proofs.Laws.Places.{Placed, placed-none, placed-more}
-use Rattle.typenames.specs.TypeNames.{Item, itemOf, items, isNamed}
+use Rattle.lexer.specs.Items.{Item, itemOf, items}
+use Rattle.typenames.specs.TypeNames.{isNamed}
 use Rattle.grammar.specs.Grammars.{Names}
 use Rattle.grammar.specs.Classes.{typeName}
 use Rattle.grammar.specs.Languages.{Language, noItem, classOf, view}

@@ -14,8 +14,8 @@ abbrev pub declaredWord : List ℕ
 declaredWord = ident ∷ typeName ∷ boolean ∷ []
 
 -- rule 2: "at a call, and in `( Name .. )`, keywords too"
-abbrev pub word : List ℕ
-word = ident ∷ typeName ∷ boolean ∷ keyword ∷ []
+abbrev pub anyWord : List ℕ
+anyWord = ident ∷ typeName ∷ boolean ∷ keyword ∷ []
 
 -- rule 1: "A type name is any IDENT, `T` or `F`"
 abbrev pub typeWord : List ℕ

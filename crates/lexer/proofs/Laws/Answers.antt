@@ -10,8 +10,8 @@ use borrow.Author.Tests.{le-leb, lt-leb, ltb-false}
 use Rattle.lexer.specs.Tests.{pick}
 use Rattle.lexer.specs.Editions.{Edition}
 use Rattle.lexer.specs.Tokens.{Ending, clean, fault, scan}
-use Rattle.lexer.specs.Table.{sourceLimit, tokenRoom, filled, endedWith, scanned, counted, withRoom, tokenized, afterAnswer}
-use Rattle.lexer.specs.Table.{tableAfter}
+use Rattle.lexer.specs.Table.{sourceLimit, tokenRoom, filled}
+use Rattle.lexer.specs.internal.Tokenized.{endedWith, scanned, counted, withRoom, tokenized, afterAnswer, tableAfter}
 use Rattle.lexer.specs.declared.Scanned.{Scanned}
 use Rattle.lexer.specs.declared.Scanned.the-variants.{Tokens, Refused}
 

@@ -9,7 +9,7 @@ use lib.Dec.{T, eqb}
 use borrow.Author.Tests.{ne-eqb}
 use Rattle.lexer.specs.Tests.{and, or, between}
 use Rattle.lexer.specs.Bytes.{isDigit, isLetter, isSpace}
-use Rattle.lexer.specs.Leaves.{classOf}
+use Rattle.lexer.specs.internal.Leaves.{byteClass}
 use Rattle.lexer.proofs.Laws.Computed.{all, all-at, None}
 
 -- whether two tests agree
@@ -26,32 +26,32 @@ agreed false true t = absurd t
 agreed false false t = refl
 
 -- one class against one test
-class-test : (k : ℕ) (f : ℕ → Bool) → T (all (λ b. agree (eqb (classOf b) k) (f b)) 256)
-    → (b : ℕ) → b < 256 → eqb (classOf b) k ≡ f b
-class-test k f t b h = agreed _ _ (all-at (λ b. agree (eqb (classOf b) k) (f b)) 256 t b h)
+class-test : (k : ℕ) (f : ℕ → Bool) → T (all (λ b. agree (eqb (byteClass b) k) (f b)) 256)
+    → (b : ℕ) → b < 256 → eqb (byteClass b) k ≡ f b
+class-test k f t b h = agreed _ _ (all-at (λ b. agree (eqb (byteClass b) k) (f b)) 256 t b h)
 
-pub class-digit : (b : ℕ) → b < 256 → eqb (classOf b) 0 ≡ isDigit b
-unfolding agree classOf and or between isDigit isLetter isSpace
+pub class-digit : (b : ℕ) → b < 256 → eqb (byteClass b) 0 ≡ isDigit b
+unfolding agree byteClass and or between isDigit isLetter isSpace
 class-digit = class-test 0 isDigit tt
 
-pub class-letter : (b : ℕ) → b < 256 → eqb (classOf b) 1 ≡ isLetter b
-unfolding agree classOf and or between isDigit isLetter isSpace
+pub class-letter : (b : ℕ) → b < 256 → eqb (byteClass b) 1 ≡ isLetter b
+unfolding agree byteClass and or between isDigit isLetter isSpace
 class-letter = class-test 1 isLetter tt
 
-pub class-space : (b : ℕ) → b < 256 → eqb (classOf b) 2 ≡ isSpace b
-unfolding agree classOf and or between isDigit isLetter isSpace
+pub class-space : (b : ℕ) → b < 256 → eqb (byteClass b) 2 ≡ isSpace b
+unfolding agree byteClass and or between isDigit isLetter isSpace
 class-space = class-test 2 isSpace tt
 
-pub class-minus : (b : ℕ) → b < 256 → eqb (classOf b) 3 ≡ eqb b (code "-")
-unfolding agree classOf and or between isDigit isLetter isSpace
+pub class-minus : (b : ℕ) → b < 256 → eqb (byteClass b) 3 ≡ eqb b (code "-")
+unfolding agree byteClass and or between isDigit isLetter isSpace
 class-minus = class-test 3 (λ b. eqb b (code "-")) tt
 
-pub class-slash : (b : ℕ) → b < 256 → eqb (classOf b) 4 ≡ eqb b (code "/")
-unfolding agree classOf and or between isDigit isLetter isSpace
+pub class-slash : (b : ℕ) → b < 256 → eqb (byteClass b) 4 ≡ eqb b (code "/")
+unfolding agree byteClass and or between isDigit isLetter isSpace
 class-slash = class-test 4 (λ b. eqb b (code "/")) tt
 
-pub class-backtick : (b : ℕ) → b < 256 → eqb (classOf b) 5 ≡ eqb b (code "`")
-unfolding agree classOf and or between isDigit isLetter isSpace
+pub class-backtick : (b : ℕ) → b < 256 → eqb (byteClass b) 5 ≡ eqb b (code "`")
+unfolding agree byteClass and or between isDigit isLetter isSpace
 class-backtick = class-test 5 (λ b. eqb b (code "`")) tt
 
 -- a byte that is none of the four spaces

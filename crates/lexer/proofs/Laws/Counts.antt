@@ -11,7 +11,7 @@ use Rattle.lexer.specs.Spellings.{commonMarks, shiftMarks}
 use Rattle.lexer.specs.Editions.{edition17}
 use Rattle.lexer.specs.Lexemes.{lexeme}
 use Rattle.lexer.specs.Tokens.{Token, Ending, clean, fault, Scan, withToken, scan}
-use Rattle.lexer.specs.Table.{endedWith, scanned}
+use Rattle.lexer.specs.internal.Tokenized.{endedWith, scanned}
 use Rattle.lexer.specs.declared.Lexeme.{Lexeme}
 use Rattle.lexer.specs.declared.Lexeme.the-variants.{End, Skipped, BadByte, OpenString}
 use Rattle.lexer.specs.declared.Scanned.{Scanned}

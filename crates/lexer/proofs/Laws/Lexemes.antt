@@ -17,7 +17,7 @@ use Rattle.lexer.specs.Spellings.{same, kindOf, longest, commonMarks, sh
 use Rattle.lexer.specs.Editions.{Edition, edition17}
 use Rattle.lexer.specs.Lexemes.{skippedSpaces, spaces, comment, wordOf, word, numberOf, unsignedNumber, withMinus, number, text}
 use Rattle.lexer.specs.Lexemes.{markOf, markUpTo, mark, orElse, lexeme}
-use Rattle.lexer.specs.Leaves.{classOf}
+use Rattle.lexer.specs.internal.Leaves.{byteClass}
 use Rattle.lexer.specs.declared.Lexeme.{Lexeme}
 use Rattle.lexer.specs.declared.Lexeme.the-variants.{Skipped, Token, BadByte, OpenString}
 use Rattle.lexer.proofs.Laws.Tests.{and-false}
@@ -78,7 +78,7 @@ module _ (e : Edition) (b : ℕ) (t : List ℕ) where
 -- the class of the first byte decides the rule
 module _ (e : Edition) (b : ℕ) (t : List ℕ) (byte : b < 256) where
   -- the tests of a byte from its class
-  module _ (k : ℕ) (c : classOf b ≡ k) where
+  module _ (k : ℕ) (c : byteClass b ≡ k) where
     is-space : isSpace b ≡ eqb k 2
     is-space = sym (rw c at (class-space b byte))
 
@@ -97,28 +97,28 @@ module _ (e : Edition) (b : ℕ) (t : List ℕ) (byte : b < 256) where
     is-backtick : eqb b (code "`") ≡ eqb k 5
     is-backtick = sym (rw c at (class-backtick b byte))
 
-  pub lexeme-space : classOf b ≡ 2 → lexeme e (b ∷ t) ≡ spaces (b ∷ t)
+  pub lexeme-space : byteClass b ≡ 2 → lexeme e (b ∷ t) ≡ spaces (b ∷ t)
   unfolding lexeme spaces
   lexeme-space c = spaces-first _ _ (rw (run-pass isSpace b t (is-space 2 c)) (omega arith))
 
-  pub lexeme-letter : classOf b ≡ 1 → lexeme e (b ∷ t) ≡ word (b ∷ t)
+  pub lexeme-letter : byteClass b ≡ 1 → lexeme e (b ∷ t) ≡ word (b ∷ t)
   unfolding lexeme orElse word
   lexeme-letter c =
       rw (no-spaces b t (is-space 1 c), no-comment b t (is-slash 1 c))
       (word-first _ _ _ _ (rw (word-letter b t (is-letter 1 c)) (omega arith)))
 
-  pub lexeme-digit : classOf b ≡ 0 → lexeme e (b ∷ t) ≡ unsignedNumber (b ∷ t)
+  pub lexeme-digit : byteClass b ≡ 0 → lexeme e (b ∷ t) ≡ unsignedNumber (b ∷ t)
   unfolding lexeme orElse unsignedNumber
   lexeme-digit c =
       rw (no-spaces b t (is-space 0 c), no-comment b t (is-slash 0 c), no-word b t (is-letter 0 c), plain-number e b t (is-minus 0 c))
       (number-first _ _ _ _ (rw (run-pass isDigit b t (is-digit 0 c)) (omega arith)))
 
-  pub lexeme-minus : classOf b ≡ 3 → lexeme e (b ∷ t) ≡ orElse (number e (b ∷ t)) (mark e (b ∷ t))
+  pub lexeme-minus : byteClass b ≡ 3 → lexeme e (b ∷ t) ≡ orElse (number e (b ∷ t)) (mark e (b ∷ t))
   unfolding lexeme orElse
   lexeme-minus c =
       rw (no-spaces b t (is-space 3 c), no-comment b t (is-slash 3 c), no-word b t (is-letter 3 c), no-text b t (is-backtick 3 c))
 
-  pub lexeme-slash : classOf b ≡ 4 → lexeme e (b ∷ t) ≡ orElse (comment (b ∷ t)) (mark e (b ∷ t))
+  pub lexeme-slash : byteClass b ≡ 4 → lexeme e (b ∷ t) ≡ orElse (comment (b ∷ t)) (mark e (b ∷ t))
   unfolding lexeme orElse
   lexeme-slash c =
       rw (
@@ -129,7 +129,7 @@ module _ (e : Edition) (b : ℕ) (t : List ℕ) (byte : b < 256) where
         no-text b t (is-backtick 4 c),
       )
 
-  pub lexeme-backtick : classOf b ≡ 5 → lexeme e (b ∷ t) ≡ orElse (text (b ∷ t)) (mark e (b ∷ t))
+  pub lexeme-backtick : byteClass b ≡ 5 → lexeme e (b ∷ t) ≡ orElse (text (b ∷ t)) (mark e (b ∷ t))
   unfolding lexeme orElse
   lexeme-backtick c =
       rw (
@@ -140,8 +140,8 @@ module _ (e : Edition) (b : ℕ) (t : List ℕ) (byte : b < 256) where
         no-digits b t (is-digit 5 c),
       )
 
-  pub lexeme-mark : (classOf b ≡ 0 → ⊥) → (classOf b ≡ 1 → ⊥) → (classOf b ≡ 2 → ⊥) → (classOf b ≡ 3 → ⊥)
-      → (classOf b ≡ 4 → ⊥) → (classOf b ≡ 5 → ⊥) → lexeme e (b ∷ t) ≡ mark e (b ∷ t)
+  pub lexeme-mark : (byteClass b ≡ 0 → ⊥) → (byteClass b ≡ 1 → ⊥) → (byteClass b ≡ 2 → ⊥) → (byteClass b ≡ 3 → ⊥)
+      → (byteClass b ≡ 4 → ⊥) → (byteClass b ≡ 5 → ⊥) → lexeme e (b ∷ t) ≡ mark e (b ∷ t)
   unfolding lexeme orElse
   lexeme-mark c0 c1 c2 c3 c4 c5 =
       rw (

@@ -7,8 +7,9 @@ use native.Mathlib.Omega.{arith}
 use lib.ListN.{length, take, drop, getD, length-append, length-drop, List·getD-append, List·getD-eq-default}
 use lib.Seq.{sets, sets-eq, take-at, take-all, drop-drop, drop-append-add}
 use Rattle.lexer.specs.Tokens.{Token}
-use Rattle.lexer.specs.Table.{tokenWidth, tokenRoom, tokenRow, tokenRows, filled, kept, rowsOf, noToken, rowAt}
-use Rattle.lexer.specs.Leaves.{rowNumbers, ownNumbers}
+use Rattle.lexer.specs.Table.{tokenWidth, tokenRoom, tokenRow, tokenRows, filled, kept}
+use Rattle.lexer.specs.internal.TokenRows.{rowsOf, noToken, rowAt}
+use Rattle.lexer.specs.internal.Leaves.{rowNumbers, ownNumbers}
 
 row-length : (source : List ℕ) (t : Token) → length (tokenRow source t) ≡ tokenWidth
 unfolding tokenRow

@@ -9,7 +9,7 @@ use native.Mathlib.Numerals.{add-one}
 use native.Mathlib.Nat.{add-zero, add-suc, suc-add}
 use borrow.Author.Tests.{eq-eqb, ne-eqb}
 use Rattle.lexer.specs.Bytes.{run}
-use Rattle.lexer.specs.Leaves.{isNot, Goes}
+use Rattle.lexer.specs.internal.Leaves.{isNot, Goes}
 
 pub run-nil : (p : ℕ → Bool) → run p [] ≡ 0
 unfolding run

@@ -11,8 +11,9 @@ use borrow.Author.Tests.{leb-true, leb-false, ltb-false, le-ltb}
 use Rattle.lexer.specs.Tests.{pick}
 use Rattle.lexer.specs.Editions.{edition17}
 use Rattle.lexer.specs.Tokens.{Token, Ending, clean, fault, cleanly, scan}
-use Rattle.lexer.specs.Table.{sourceLimit, tokenWidth, tokenRoom, filled, rowsOf, endedWith, scanned, counted, withRoom, afterAnswer}
-use Rattle.lexer.specs.Table.{tokenized, tableAfter}
+use Rattle.lexer.specs.Table.{sourceLimit, tokenWidth, tokenRoom, filled}
+use Rattle.lexer.specs.internal.TokenRows.{rowsOf}
+use Rattle.lexer.specs.internal.Tokenized.{endedWith, scanned, counted, withRoom, afterAnswer, tokenized, tableAfter}
 use Rattle.lexer.specs.declared.Scanned.the-variants.{Tokens}
 use Rattle.lexer.specs.declared.Scanned.{Scanned}
 use Rattle.lexer.proofs.Laws.Scans.{cleanly-found}
@@ -26,21 +27,21 @@ use Rattle.typenames.proofs.Laws.Entries.{checked-two}
 use Rattle.grammar.specs.Reading.{Outcome, ok, stuck, deep, spent}
 use Rattle.grammar.specs.Languages.{language17}
 use Rattle.grammar.specs.Sources.{readTokens}
-use Rattle.grammar.specs.TreeTable.{treeRoom}
-use Rattle.grammar.specs.Answers.{levelLimit, late, accept, judged, values, Result, result, answer17, answerValues}
-use Rattle.grammar.specs.Demands.{Admitted, Readable, too-long, bad-names, bad-byte, open-string, few-token-rows, Demands}
-use Rattle.grammar.specs.declared.Answer.{Answer}
-use Rattle.grammar.specs.declared.Answer.the-variants.{Refused}
-use Rattle.grammar.proofs.Laws.Answers.{read-result}
-use Rattle.grammar.proofs.Laws.Nurl17.{answer17-meets}
-use Rattle.nurl.specs.Results.{treeResult}
+use Rattle.tree.specs.TreeTable.{treeRoom}
+use Rattle.answer.specs.Answers.{levelLimit, late, accept, judged, values, Result, result, answer17, answerValues}
+use Rattle.answer.specs.Demands.{Admitted, Readable, too-long, bad-names, bad-byte, open-string, few-token-rows, Demands}
+use Rattle.answer.specs.declared.Answer.{Answer}
+use Rattle.answer.specs.declared.Answer.the-variants.{Refused}
+use Rattle.answer.proofs.Laws.Answers.{read-result}
+use Rattle.answer.proofs.Theorem.{answer-meets}
+use Rattle.nurl.specs.internal.Results.{treeResult}
 
 -- a result is the answer, and so has the demands and the answer's numbers
 pub meets : (source names tokens rows : List ℕ) (r : Result) → r ≡ answer17 source names tokens rows
     → (r ≡ answer17 source names tokens rows)
     × ((Demands language17 source names levelLimit tokens rows r) × (values (r .answer) ≡ answerValues source names tokens rows))
 meets source names tokens rows r h =
-    (h, (rw h (answer17-meets source names tokens rows), ap (λ (x : Result). values (x .answer)) h))
+    (h, (rw h (answer-meets source names tokens rows), ap (λ (x : Result). values (x .answer)) h))
 
 -- what a reading of the tokens says does not depend on what else the token table holds
 rest-same : (source : List ℕ) (ts : List Token) (lent tokens rows : List ℕ) (o : Outcome)
@@ -87,13 +88,13 @@ module _ (source names tokens rows : List ℕ) where
 
   -- No. 1 and 2
   pub refused-long : sourceLimit < length source → unchanged 1 0 ≡ answer17 source names tokens rows
-  refused-long long = sym (answer17-meets source names tokens rows .demand1 .refusal 1 0 tokens rows (too-long long))
+  refused-long long = sym (answer-meets source names tokens rows .demand1 .refusal 1 0 tokens rows (too-long long))
 
   pub refused-names : (number place : ℕ) → length source ≤ sourceLimit → checked edition17 names ≡ Checked.Refused number place
       → unchanged number place ≡ answer17 source names tokens rows
   refused-names number place within h =
       let two = checked-two edition17 names number place h in
-      rw two (sym (answer17-meets source names tokens rows .demand1 .refusal 2 place tokens rows (bad-names within (rw two at h))))
+      rw two (sym (answer-meets source names tokens rows .demand1 .refusal 2 place tokens rows (bad-names within (rw two at h))))
 
   -- No. 3 to 5
   module _ (within : length source ≤ sourceLimit) (good : checked edition17 names ≡ Good) where
@@ -104,10 +105,10 @@ module _ (source names tokens rows : List ℕ) where
         → ((number ≡ 3) × A) ⊎ ((number ≡ 4) × B) → unchanged number place ≡ answer17 source names tokens rows
     refused-fault number place h (inl (three, b)) =
         rw three
-        (sym (answer17-meets source names tokens rows .demand1 .refusal 3 place tokens rows (bad-byte admitted (rw three at h))))
+        (sym (answer-meets source names tokens rows .demand1 .refusal 3 place tokens rows (bad-byte admitted (rw three at h))))
     refused-fault number place h (inr (four, b)) =
         rw four
-        (sym (answer17-meets source names tokens rows .demand1 .refusal 4 place tokens rows (open-string admitted (rw four at h))))
+        (sym (answer-meets source names tokens rows .demand1 .refusal 4 place tokens rows (open-string admitted (rw four at h))))
 
     -- the tokens found, and that they are readable where the source ends clean
     abbrev all : List Token
@@ -134,7 +135,7 @@ module _ (source names tokens rows : List ℕ) where
             let five : 5 ≡ number = cc in
             let at : length all ≡ place = cc in
             rw (← five, ← at)
-            (sym (answer17-meets source names tokens rows .demand1 .refusal 5 (length all) tokens rows
+            (sym (answer-meets source names tokens rows .demand1 .refusal 5 (length all) tokens rows
             (few-token-rows (all-readable h) (leb-false _ _ q))))
 
     tokens-by : (t : Scanned) → tokenized edition17 source tokens ≡ t

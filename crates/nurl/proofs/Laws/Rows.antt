@@ -13,32 +13,33 @@ use Rattle.lexer.specs.Tests.{and, between}
 use Rattle.lexer.specs.internal.Kinds.{firstKind, lastKind}
 use Rattle.lexer.specs.Editions.{edition17}
 use Rattle.lexer.specs.Tokens.{Token, cleanly, scan}
-use Rattle.lexer.specs.Table.{sourceLimit, tokenRoom, rowsOf, rowAt, noToken}
+use Rattle.lexer.specs.Table.{sourceLimit, tokenRoom}
+use Rattle.lexer.specs.internal.TokenRows.{rowsOf, rowAt, noToken}
 use Rattle.lexer.proofs.Laws.Counts.{spelled17}
 use Rattle.lexer.proofs.Laws.Rows.{rows-of-length}
 use Rattle.lexer.proofs.Laws.Places.{Placed, placed-none, placed-more, tokens-placed, tokens-few}
-use Rattle.typenames.specs.TypeNames.{Item, items, opening17}
-use Rattle.typenames.specs.Prepared.{preparedNames}
+use Rattle.lexer.specs.Items.{Item, items}
+use Rattle.typenames.specs.TypeNames.{opening17}
+use Rattle.typenames.specs.internal.Prepared.{preparedNames}
 use Rattle.typenames.specs.declared.Scope.the-variants.{Program}
 use Rattle.grammar.specs.Grammars.{Names, View}
-use Rattle.grammar.specs.Rows.{Row}
+use Rattle.tree.specs.TreeTable.{Row, treeRoom, cleared}
 use Rattle.grammar.specs.Reading.{Outcome, ok, stuck, deep, spent, whole}
 use Rattle.grammar.specs.internal.Nonterminals.{program}
 use Rattle.grammar.specs.Nurl.{productions}
 use Rattle.grammar.specs.Languages.{language17}
 use Rattle.grammar.specs.Sources.{viewOf, namesOf, readTokens}
-use Rattle.grammar.specs.TreeTable.{treeRoom, cleared}
-use Rattle.grammar.specs.Answers.{levelLimit, judged, result}
-use Rattle.grammar.specs.declared.Answer.the-variants.{Accepted, Refused}
+use Rattle.answer.specs.Answers.{levelLimit, judged, result}
+use Rattle.answer.specs.declared.Answer.the-variants.{Accepted, Refused}
 use Rattle.grammar.proofs.Laws.Nurl17.{theorems17}
-use Rattle.parser.specs.Trees.{put}
-use Rattle.parser.specs.Steps.{Tokens}
-use Rattle.parser.specs.Readings.{Gives, Reads, read, refused6, refused7, passed, ReadsWhole}
+use Rattle.tree.specs.internal.Trees.{put}
+use Rattle.parser.specs.internal.Steps.{Tokens}
+use Rattle.parser.specs.internal.Readings.{Gives, Reads, read, refused6, refused7, refusedBefore, ReadsWhole}
 use Rattle.parser.specs.declared.Step.{Step}
 use Rattle.parser.specs.declared.Step.the-variants.{Read}
-use Rattle.parser.proofs.Laws.Trees.{put-placed}
+use Rattle.tree.proofs.Laws.Trees.{put-placed}
 use Rattle.parser.proofs.Laws.WholeRows.{cleared-put}
-use Rattle.nurl.specs.Results.{treeResult}
+use Rattle.nurl.specs.internal.Results.{treeResult}
 
 -- what a reader of some symbols says, from the first token and row on
 module _ (v : View) (count : ℕ) (e : Names) (n : ℕ) (table after : List ℕ) where
@@ -63,7 +64,7 @@ module _ (v : View) (count : ℕ) (e : Names) (n : ℕ) (table after : List ℕ)
       }
   read-to from to (refused6 g l) start j k goal = let z : _≡_ {A = ℕ} 0 1 = cc in absurd (omega arith)
   read-to from to (refused7 g l) start j k goal = let z : _≡_ {A = ℕ} 0 1 = cc in absurd (omega arith)
-  read-to from to (passed l) start j k goal = let z : _≡_ {A = ℕ} 0 1 = cc in absurd (omega arith)
+  read-to from to (refusedBefore l) start j k goal = let z : _≡_ {A = ℕ} 0 1 = cc in absurd (omega arith)
 
   -- .. or what it refuses
   abbrev StoppedAt : ℕ → ℕ → Type 0
@@ -84,7 +85,7 @@ module _ (v : View) (count : ℕ) (e : Names) (n : ℕ) (table after : List ℕ)
       let far : place ≡ where-to = cc in
       let seven : number ≡ 7 = cc in
       inr (seven, rw (← far) (subst (λ (i : ℕ). Gives productions v e n (whole program) i (deep place)) at g))
-  stopped-at from to (passed l) start number place goal = let z : _≡_ {A = ℕ} 0 1 = cc in absurd (omega arith)
+  stopped-at from to (refusedBefore l) start number place goal = let z : _≡_ {A = ℕ} 0 1 = cc in absurd (omega arith)
 
 -- a part that was lent comes back with its length, at the front
 pub kept-size : (part table : List ℕ) (size : ℕ) → length part ≡ length (take size table) → size ≤ length table → length part ≡ size

@@ -10,7 +10,8 @@ use lib.ListN.{length, take, drop, set, length-append, length-take, length-drop,
 use lib.Seq.{take-all, take-append-le, set-at, drop-cons}
 use borrow.Author.Tests.{leb-true, leb-false, ltb-true, ltb-false, le-leb, lt-leb, lt-ltb, le-ltb}
 use Rattle.lexer.specs.Tests.{pick}
-use Rattle.nurl.specs.Texts.{digit, digitsWithin, decimal, written, overwritten, Holds, Appends}
+use Rattle.nurl.specs.Texts.{digit, digitsWithin, decimal, written, overwritten}
+use Rattle.nurl.specs.internal.Writing.{Holds, Appends}
 use Rattle.nurl.specs.declared.Written.{Written}
 use Rattle.nurl.specs.declared.Written.the-variants.{Whole, Cut}
 

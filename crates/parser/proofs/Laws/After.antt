@@ -11,22 +11,23 @@ use native.Mathlib.Nat.{zero-add}
 use lib.ListN.{length, length-append}
 use Rattle.lexer.specs.Tests.{pick, among}
 use Rattle.lexer.specs.Table.{sourceLimit, tokenRoom}
-use Rattle.grammar.specs.Grammars.{Condition, Symbol, token, part, condition, Makes, row, rowOf, says, noRow, Production, Names}
-use Rattle.grammar.specs.Grammars.{View, met}
-use Rattle.grammar.specs.Rows.{Row, above, made, passed, firstSaid, levels}
-use Rattle.grammar.specs.Reading.{Outcome, ok, stuck, deep, spent, none, one, choice, onward}
-use Rattle.grammar.specs.internal.Nurl.{rule}
-use Rattle.parser.specs.Trees.{put, putRow}
-use Rattle.parser.specs.Readings.{Gives, Reads, read, refused6, refused7}
-use Rattle.parser.specs.Readings as readings
-use Rattle.parser.specs.Steps.{Within, inside, elsewhere, Spans, spans, from-refused, to-refused, Small, small, over}
-use Rattle.parser.specs.Steps.{refusedAt, takenBy, opened, reserved, closed}
+use Rattle.grammar.specs.Grammars.{Condition, Symbol, token, derived, condition, Makes, givesRow, rowOf, givesKind, noRow, Production}
+use Rattle.grammar.specs.Grammars.{Names, View, met}
+use Rattle.tree.specs.TreeTable.{Row}
+use Rattle.grammar.specs.Rows.{above, made, passed, firstSaid, levels}
+use Rattle.grammar.specs.Reading.{Outcome, ok, stuck, deep, spent, none, selected, choice, onward}
+use Rattle.grammar.specs.internal.Productions.{ruleOf}
+use Rattle.tree.specs.internal.Trees.{put, putRow}
+use Rattle.parser.specs.internal.Readings.{Gives, Reads, read, refused6, refused7}
+use Rattle.parser.specs.internal.Readings as readings
+use Rattle.parser.specs.internal.Steps.{Within, inside, elsewhere, Spans, spans, from-refused, to-refused, Small, small, over}
+use Rattle.parser.specs.internal.Steps.{refusedAt, takenBy, opened, rowLeft, closed}
 use Rattle.parser.specs.declared.Step.{Step}
 use Rattle.parser.specs.declared.Step.the-variants.{Read, Refused}
 use Rattle.parser.proofs.Laws.Gives.{after, wrapped, Takes, takes, vain, gives-end, gives-token, gives-token-stuck, gives-held}
 use Rattle.parser.proofs.Laws.Gives.{gives-none, gives-within, gives-then, gives-then-stuck, gives-then-deep, takes-inlined}
 use Rattle.parser.proofs.Laws.Gives.{gives-unheld, barred-stuck}
-use Rattle.parser.proofs.Laws.Trees.{put-append, length-put, put-parent}
+use Rattle.tree.proofs.Laws.Trees.{put-append, length-put, put-parent}
 
 -- `After g v count e n below m least more ts ss s table s' table'`: of the symbols ts, read with n levels from the step s and the table
 -- on, a production that makes m is begun and its symbols ss are left, with so many levels below it; s' and table' are what is reached
@@ -63,14 +64,14 @@ wrapped-after m i rows others spent = refl
 
 -- a kind that a part says
 wrapped-says : (i j kind : ℕ) (rows : List Row) (o : Outcome)
-    → wrapped rowOf i rows (wrapped (says kind) j [] o) ≡ wrapped (row kind) i rows o
+    → wrapped rowOf i rows (wrapped (givesKind kind) j [] o) ≡ wrapped (givesRow kind) i rows o
 unfolding wrapped onward made passed
 wrapped-says i j kind rows (ok k others said) = refl
 wrapped-says i j kind rows (stuck k) = refl
 wrapped-says i j kind rows (deep k) = refl
 wrapped-says i j kind rows spent = refl
 
-says-level : (m : Makes) (kind n : ℕ) → m ≡ says kind → n ≡ levels m + n
+says-level : (m : Makes) (kind n : ℕ) → m ≡ givesKind kind → n ≡ levels m + n
 unfolding levels
 says-level m kind n is = rw is (omega arith)
 
@@ -99,7 +100,7 @@ module _ (g : List Production) (v : View) (tokens : List ℕ) (e : Names) (fixed
   pub start : {n more : ℕ} {ts : List Symbol} {s : Step} {t : List ℕ} → Within tokens more s
       → After g v (tokenRoom tokens) e n n noRow 0 more ts ts s t s t
   unfolding levels put
-  start {n} {more} {ts} (inside {at = i} {row = r} a b) =
+  start {n} {more} {ts} (inside {at = i} {givesRow = r} a b) =
       going {i = i} {r = r} {j = i} {k = r} [] (λ (o : Outcome) (d : Gives g v e n ts i o). rw wrapped-nothing d)
       (omega arith) refl (omega arith) a b
   start elsewhere = passedOn refl
@@ -107,12 +108,12 @@ module _ (g : List Production) (v : View) (tokens : List ℕ) (e : Names) (fixed
   -- a production that makes a row is begun, and the token taken that it begins with
   pub begun : {n below x : ℕ} {m : Makes} {cs : List ℕ} {ss : List Symbol} {s : Step} {t : List ℕ}
       → Within tokens 1 s → n ≡ suc below → levels m ≡ 1
-      → ((i r : ℕ) → s ≡ Read i r → choice g v e x i ≡ one (record { left = x; makes = m; right = token cs ∷ ss }))
+      → ((i r : ℕ) → s ≡ Read i r → choice g v e x i ≡ selected (record { left = x; makes = m; right = token cs ∷ ss }))
       → ((i r : ℕ) → s ≡ Read i r → among cs (v .class e i) ≡ true)
       → ((i r : ℕ) → s ≡ Read i r → i < tokenRoom tokens)
-      → After g v (tokenRoom tokens) e n below m 1 0 (part x ∷ []) ss s t (opened s) t
+      → After g v (tokenRoom tokens) e n below m 1 0 (derived x ∷ []) ss s t (opened s) t
   unfolding opened put
-  begun {n} {below} {x} {m} {cs} {ss} (inside {at = i} {row = r} a b) at level chosen first room =
+  begun {n} {below} {x} {m} {cs} {ss} (inside {at = i} {givesRow = r} a b) at level chosen first room =
       let few = room i r refl in
       going {i = i} {r = r} {j = i + 1} {k = r + 1} [] (λ (o : Outcome) (d : Gives g v e below ss (i + 1) o).
       gives-within g v e fixed (record { left = x; makes = m; right = token cs ∷ ss }) (chosen i r refl) (omega arith)
@@ -122,10 +123,10 @@ module _ (g : List Production) (v : View) (tokens : List ℕ) (e : Names) (fixed
   -- a production that makes a row is begun, and no token taken
   pub begun-part : {n below x : ℕ} {m : Makes} {ss : List Symbol} {s : Step} {t : List ℕ}
       → Within tokens 0 s → n ≡ suc below → levels m ≡ 1
-      → ((i r : ℕ) → s ≡ Read i r → choice g v e x i ≡ one (record { left = x; makes = m; right = ss }))
-      → After g v (tokenRoom tokens) e n below m 0 1 (part x ∷ []) ss s t (reserved s) t
-  unfolding reserved put
-  begun-part {n} {below} {x} {m} {ss} (inside {at = i} {row = r} a b) at level chosen =
+      → ((i r : ℕ) → s ≡ Read i r → choice g v e x i ≡ selected (record { left = x; makes = m; right = ss }))
+      → After g v (tokenRoom tokens) e n below m 0 1 (derived x ∷ []) ss s t (rowLeft s) t
+  unfolding rowLeft put
+  begun-part {n} {below} {x} {m} {ss} (inside {at = i} {givesRow = r} a b) at level chosen =
       going {i = i} {r = r} {j = i} {k = r + 1} [] (λ (o : Outcome) (d : Gives g v e below ss i o).
       gives-within g v e fixed (record { left = x; makes = m; right = ss }) (chosen i r refl) (omega arith) d)
       (omega arith) refl (omega arith) a (omega arith)
@@ -158,8 +159,8 @@ module _ (g : List Production) (v : View) (tokens : List ℕ) (e : Names) (fixed
 
   -- a part that a reader read
   pub went : {n below least more least' more' y : ℕ} {m : Makes} {ts ss : List Symbol} {s s' s'' : Step} {t t' t'' : List ℕ}
-      → After g v (tokenRoom tokens) e n below m least more ts (part y ∷ ss) s t s' t'
-      → Reads g v (tokenRoom tokens) e below least' more' (part y ∷ []) s' t' s'' t''
+      → After g v (tokenRoom tokens) e n below m least more ts (derived y ∷ ss) s t s' t'
+      → Reads g v (tokenRoom tokens) e below least' more' (derived y ∷ []) s' t' s'' t''
       → After g v (tokenRoom tokens) e n below m (least + least') more' ts ss s t s'' t''
   unfolding wrapped onward
   went {n} {below} {m = m} {ts = ts} {ss = ss} (going {i = i} {r = r} {j = j} {k = k} {table = t} {current = t'} rows f at is from few to)
@@ -172,9 +173,9 @@ module _ (g : List Production) (v : View) (tokens : List ℕ) (e : Names) (fixed
       stopped6 (f (stuck place) (gives-then-stuck g v e ss c)) (l ∙ put-length (levels m + r) rows t t' is)
   went {m = m} {ss = ss} (going {r = r} {table = t} {current = t'} rows f at is from few to) (refused7 {place = place} c l) =
       stopped7 (f (deep place) (gives-then-deep g v e ss c)) (l ∙ put-length (levels m + r) rows t t' is)
-  went (stopped6 d l) (readings.passed l') = stopped6 d (l' ∙ l)
-  went (stopped7 d l) (readings.passed l') = stopped7 d (l' ∙ l)
-  went (passedOn l) (readings.passed l') = passedOn (l' ∙ l)
+  went (stopped6 d l) (readings.refusedBefore l') = stopped6 d (l' ∙ l)
+  went (stopped7 d l) (readings.refusedBefore l') = stopped7 d (l' ∙ l)
+  went (passedOn l) (readings.refusedBefore l') = passedOn (l' ∙ l)
 
   -- all is read
   pub done : {n least more : ℕ} {ts : List Symbol} {s s' : Step} {t t' : List ℕ}
@@ -185,12 +186,12 @@ module _ (g : List Production) (v : View) (tokens : List ℕ) (e : Names) (fixed
       read {i = i} {r = r} {j = j} {k = k} {rows = rows} all (omega arith) (put-zero r rows t t' is) from few to
   done (stopped6 d l) = refused6 d l
   done (stopped7 d l) = refused7 d l
-  done (passedOn l) = readings.passed l
+  done (passedOn l) = readings.refusedBefore l
 
   -- all below a row is read, and the row is put above it
   pub closes : {n below kind least more x : ℕ} {s s' : Step} {t t' : List ℕ}
-      → After g v (tokenRoom tokens) e n below (row kind) least more (part x ∷ []) [] s t s' t'
-      → Reads g v (tokenRoom tokens) e n least more (part x ∷ []) s t s' (closed kind s s' t')
+      → After g v (tokenRoom tokens) e n below (givesRow kind) least more (derived x ∷ []) [] s t s' t'
+      → Reads g v (tokenRoom tokens) e n least more (derived x ∷ []) s t s' (closed kind s s' t')
   unfolding levels wrapped onward made passed closed
   closes {n} {below} {kind} {x = x} (going {i = i} {r = r} {j = j} {k = k} {table = t} {current = t'} rows f at is from few to) =
       let all = rw append-nil at (f (ok j [] 0) (gives-end g v e below j)) in
@@ -198,11 +199,11 @@ module _ (g : List Production) (v : View) (tokens : List ℕ) (e : Names) (fixed
       (put-above kind i j r k rows t t' at is) from few to
   closes (stopped6 d l) = refused6 d l
   closes (stopped7 d l) = refused7 d l
-  closes (passedOn l) = readings.passed l
+  closes (passedOn l) = readings.refusedBefore l
 
   -- a nonterminal that makes no row is looked through: what is left are its production's symbols
   pub looked : {n below least more y : ℕ} {m : Makes} {q : Production} {ts ss : List Symbol} {s s' : Step} {t t' : List ℕ}
-      → After g v (tokenRoom tokens) e n below m least more ts (part y ∷ ss) s t s' t'
+      → After g v (tokenRoom tokens) e n below m least more ts (derived y ∷ ss) s t s' t'
       → ((j k : ℕ) → s' ≡ Read j k → Takes g v e y q j) → q .makes ≡ noRow
       → After g v (tokenRoom tokens) e n below m least more ts (q .right ++ ss) s t s' t'
   looked {below = below} {q = q} {ss = ss} (going {j = j} {k = k} rows f at is from few to) chosen rowless =
@@ -212,8 +213,8 @@ module _ (g : List Production) (v : View) (tokens : List ℕ) (e : Names) (fixed
   looked (stopped7 d l) chosen rowless = stopped7 d l
   looked (passedOn l) chosen rowless = passedOn l
 
-  takes-said : {n y i kind : ℕ} {o : Outcome} {q : Production} → Takes g v e y q i → q .makes ≡ says kind
-      → Gives g v e n (q .right) i o → Gives g v e n (part y ∷ []) i (wrapped (says kind) i [] o)
+  takes-said : {n y i kind : ℕ} {o : Outcome} {q : Production} → Takes g v e y q i → q .makes ≡ givesKind kind
+      → Gives g v e n (q .right) i o → Gives g v e n (derived y ∷ []) i (wrapped (givesKind kind) i [] o)
   unfolding wrapped onward
   takes-said {n} {y} {i} {kind} {o} {q} (takes c) m d =
       rw m at (gives-within g v e fixed q c (says-level (q .makes) kind n m) d)
@@ -223,14 +224,14 @@ module _ (g : List Production) (v : View) (tokens : List ℕ) (e : Names) (fixed
 
   -- the last part of a production says the kind of its row
   pub spoken : {n below least more y kind : ℕ} {q : Production} {ts : List Symbol} {s s' : Step} {t t' : List ℕ}
-      → After g v (tokenRoom tokens) e n below rowOf least more ts (part y ∷ []) s t s' t'
-      → ((j k : ℕ) → s' ≡ Read j k → Takes g v e y q j) → q .makes ≡ says kind
-      → After g v (tokenRoom tokens) e n below (row kind) least more ts (q .right) s t s' t'
+      → After g v (tokenRoom tokens) e n below rowOf least more ts (derived y ∷ []) s t s' t'
+      → ((j k : ℕ) → s' ≡ Read j k → Takes g v e y q j) → q .makes ≡ givesKind kind
+      → After g v (tokenRoom tokens) e n below (givesRow kind) least more ts (q .right) s t s' t'
   unfolding levels
   spoken {below = below} {kind = kind} {q = q} (going {i = i} {r = r} {j = j} {k = k} {table = t} {current = t'} rows f at is from few to)
       chosen said =
       going {i = i} {r = r} {j = j} {k = k} {table = t} {current = t'} rows (λ (o : Outcome) (d : Gives g v e below (q .right) j o).
-      rw (← wrapped-says i j kind rows o) (f (wrapped (says kind) j [] o) (takes-said (chosen j k refl) said d))) at is from few to
+      rw (← wrapped-says i j kind rows o) (f (wrapped (givesKind kind) j [] o) (takes-said (chosen j k refl) said d))) at is from few to
   spoken (stopped6 d l) chosen said = stopped6 d l
   spoken (stopped7 d l) chosen said = stopped7 d l
   spoken (passedOn l) chosen said = passedOn l
@@ -261,7 +262,7 @@ module _ (g : List Production) (v : View) (tokens : List ℕ) (e : Names) (fixed
 
   -- a part that cannot be read here: the token is refused
   pub barred : {n below least more y : ℕ} {m : Makes} {ts ss us : List Symbol} {s s' : Step} {t t' : List ℕ}
-      → After g v (tokenRoom tokens) e n below m least more ts (part y ∷ ss) s t s' t'
+      → After g v (tokenRoom tokens) e n below m least more ts (derived y ∷ ss) s t s' t'
       → ((j k : ℕ) → s' ≡ Read j k → choice g v e y j ≡ none)
       → After g v (tokenRoom tokens) e n below m least more ts us s t (refusedAt 6 s') t'
   unfolding refusedAt wrapped onward
@@ -293,28 +294,28 @@ module _ (g : List Production) (v : View) (tokens : List ℕ) (e : Names) (fixed
 
   -- one more of a list
   pub list-more : {n below least more x y : ℕ} {m : Makes} {ts ss : List Symbol} {s s' s'' : Step} {t t' t'' : List ℕ}
-      → After g v (tokenRoom tokens) e n below m least more ts (part x ∷ ss) s t s' t'
-      → ((j k : ℕ) → s' ≡ Read j k → choice g v e x j ≡ one (rule x noRow (part y ∷ part x ∷ [])))
-      → Reads g v (tokenRoom tokens) e below 1 0 (part y ∷ []) s' t' s'' t''
-      → After g v (tokenRoom tokens) e n below m least more ts (part x ∷ ss) s t s'' t''
+      → After g v (tokenRoom tokens) e n below m least more ts (derived x ∷ ss) s t s' t'
+      → ((j k : ℕ) → s' ≡ Read j k → choice g v e x j ≡ selected (ruleOf x noRow (derived y ∷ derived x ∷ [])))
+      → Reads g v (tokenRoom tokens) e below 1 0 (derived y ∷ []) s' t' s'' t''
+      → After g v (tokenRoom tokens) e n below m least more ts (derived x ∷ ss) s t s'' t''
   list-more {x = x} {y = y} {s' = s'} a chosen d =
-      let next = looked {q = rule x noRow (part y ∷ part x ∷ [])} a
+      let next = looked {q = ruleOf x noRow (derived y ∷ derived x ∷ [])} a
       (λ (j k : ℕ) (is : s' ≡ Read j k). takes (chosen j k is)) refl in
       wider (went next d) (omega arith) (omega arith)
 
   -- the end of a list
   pub list-done : {n below least more x : ℕ} {m : Makes} {ts ss : List Symbol} {s s' : Step} {t t' : List ℕ}
-      → After g v (tokenRoom tokens) e n below m least more ts (part x ∷ ss) s t s' t'
-      → ((j k : ℕ) → s' ≡ Read j k → choice g v e x j ≡ one (rule x noRow []))
+      → After g v (tokenRoom tokens) e n below m least more ts (derived x ∷ ss) s t s' t'
+      → ((j k : ℕ) → s' ≡ Read j k → choice g v e x j ≡ selected (ruleOf x noRow []))
       → After g v (tokenRoom tokens) e n below m least more ts ss s t s' t'
   list-done {x = x} {s' = s'} a chosen =
-      looked {q = rule x noRow []} a (λ (j k : ℕ) (is : s' ≡ Read j k). takes (chosen j k is)) refl
+      looked {q = ruleOf x noRow []} a (λ (j k : ℕ) (is : s' ≡ Read j k). takes (chosen j k is)) refl
 
   -- what is reached lies after where it began, ..
   pub after-spans : {n below least more : ℕ} {m : Makes} {ts ss : List Symbol} {s s' : Step} {t t' : List ℕ} → levels m ≡ 1
       → After g v (tokenRoom tokens) e n below m least more ts ss s t s' t' → Spans s s'
   after-spans level (going {i = i} {r = r} {j = j} {k = k} rows f at is from few to) =
-      spans {at = i} {row = r} {next = j} {last = k} (omega arith) (omega arith)
+      spans {at = i} {givesRow = r} {next = j} {last = k} (omega arith) (omega arith)
   after-spans level (stopped6 d l) = to-refused
   after-spans level (stopped7 d l) = to-refused
   after-spans level (passedOn l) = from-refused
@@ -329,17 +330,17 @@ module _ (g : List Production) (v : View) (tokens : List ℕ) (e : Names) (fixed
 
   -- no production of the nonterminal can be taken here: the token is refused
   pub stuck-at : {n least more x : ℕ} (s : Step) {t : List ℕ} → ((j k : ℕ) → s ≡ Read j k → choice g v e x j ≡ none)
-      → Reads g v (tokenRoom tokens) e n least more (part x ∷ []) s t (refusedAt 6 s) t
+      → Reads g v (tokenRoom tokens) e n least more (derived x ∷ []) s t (refusedAt 6 s) t
   unfolding refusedAt
   stuck-at {n} {x = x} (Read j k) out = refused6 (gives-none g v e fixed n x j [] (out j k refl)) refl
-  stuck-at (Refused number place) out = readings.passed refl
+  stuck-at (Refused number place) out = readings.refusedBefore refl
 
   -- no level is left here: it is too deep
-  pub deep-at : {n least more x : ℕ} (s : Step) {t : List ℕ} → ((j k : ℕ) → s ≡ Read j k → Gives g v e n (part x ∷ []) j (deep j))
-      → Reads g v (tokenRoom tokens) e n least more (part x ∷ []) s t (refusedAt 7 s) t
+  pub deep-at : {n least more x : ℕ} (s : Step) {t : List ℕ} → ((j k : ℕ) → s ≡ Read j k → Gives g v e n (derived x ∷ []) j (deep j))
+      → Reads g v (tokenRoom tokens) e n least more (derived x ∷ []) s t (refusedAt 7 s) t
   unfolding refusedAt
   deep-at (Read j k) out = refused7 (out j k refl) refl
-  deep-at (Refused number place) out = readings.passed refl
+  deep-at (Refused number place) out = readings.refusedBefore refl
 
   -- what a reader reaches is at a token of the table, with no more rows than are allowed
   pub reads-within : {n least more : ℕ} {ts : List Symbol} {s s' : Step} {t t' : List ℕ}
@@ -347,15 +348,15 @@ module _ (g : List Production) (v : View) (tokens : List ℕ) (e : Names) (fixed
   reads-within (read d at is from few to) = inside few to
   reads-within (refused6 d l) = elsewhere
   reads-within (refused7 d l) = elsewhere
-  reads-within (readings.passed l) = elsewhere
+  reads-within (readings.refusedBefore l) = elsewhere
 
 module _ (tokens : List ℕ) where
   -- more rows are allowed
   pub within-wider : {more more' : ℕ} {s : Step} → Within tokens more s → more ≤ more' → Within tokens more' s
-  within-wider (inside {at = i} {row = r} few to) h = inside {at = i} {row = r} few (omega arith)
+  within-wider (inside {at = i} {givesRow = r} few to) h = inside {at = i} {givesRow = r} few (omega arith)
   within-wider elsewhere h = elsewhere
 
   -- the tokens and rows of a reading of a source have numbers of 32 bits
   pub within-small : {more : ℕ} {s : Step} → tokenRoom tokens ≤ sourceLimit → more ≤ 1 → Within tokens more s → Small s
-  within-small all h (inside {at = i} {row = r} few to) = small {at = i} {row = r} (omega arith) (omega arith)
+  within-small all h (inside {at = i} {givesRow = r} few to) = small {at = i} {givesRow = r} (omega arith) (omega arith)
   within-small all h elsewhere = over

@@ -8,19 +8,20 @@ use lib.Dec.{eqb, leb}
 use borrow.Author.Tests.{eqb-true, eq-eqb}
 use Rattle.lexer.specs.Tests.{and, between}
 use Rattle.lexer.specs.internal.Kinds.{ident, string, at, percent, arrow}
-use Rattle.lexer.specs.Table.{tokenRoom, rowsOf}
-use Rattle.grammar.specs.Grammars.{Symbol, token, part, Makes, row, rowOf, Names, View}
+use Rattle.lexer.specs.Table.{tokenRoom}
+use Rattle.lexer.specs.internal.TokenRows.{rowsOf}
+use Rattle.grammar.specs.Grammars.{Symbol, token, derived, Makes, givesRow, rowOf, Names, View}
 use Rattle.grammar.specs.Rows.{levels}
-use Rattle.grammar.specs.Reading.{one, choice}
-use Rattle.grammar.specs.internal.RowKinds.{importRow, foreignRow, functionRow}
+use Rattle.grammar.specs.Reading.{selected, choice}
+use Rattle.tree.specs.internal.RowKinds.{importRow, foreignRow, functionRow}
 use Rattle.grammar.specs.internal.Nonterminals.{declarations, declaration, interface, interfaceRest, function, fields, typeParameters}
 use Rattle.grammar.specs.internal.Nonterminals.{parameters, type, block}
 use Rattle.grammar.specs.internal.Classes.{name}
 use Rattle.grammar.specs.Nurl.{productions}
-use Rattle.grammar.specs.internal.Nurl.{rule, one as only}
+use Rattle.grammar.specs.internal.Productions.{ruleOf, kindToken as only}
 use Rattle.grammar.specs.Languages.{language17}
 use Rattle.grammar.specs.Sources.{viewOf}
-use Rattle.grammar.specs.Alternatives.{kindOf, kindAlternative, nth}
+use Rattle.grammar.specs.internal.Alternatives.{kindOfClass, kindAlternative, nth}
 use Rattle.grammar.proofs.Laws.Checks.{below, implies}
 use Rattle.grammar.proofs.Laws.CheckLaws.{implies-true}
 use Rattle.grammar.proofs.Laws.Views.{classes}
@@ -28,8 +29,8 @@ use Rattle.grammar.proofs.Laws.Groups17.{kindNumber}
 use Rattle.grammar.proofs.Laws.Alternatives17.{declaration-at, declaration-import, declaration-foreign, declaration-function}
 use Rattle.grammar.proofs.Laws.Alternatives17.{declaration-interface, declarations-more, declarations-done, alias-some, alias-none}
 use Rattle.grammar.proofs.Laws.Alternatives17.{function-one, interface-one}
-use Rattle.parser.specs.Readings.{Reads}
-use Rattle.parser.specs.Steps.{Tokens, Within, nextKind, begins, refusedAt, taken, takenIf, opened}
+use Rattle.parser.specs.internal.Readings.{Reads}
+use Rattle.parser.specs.internal.Steps.{Tokens, Within, nextKind, beginsPart, refusedAt, takenKind, takenIf, opened}
 use Rattle.parser.specs.declared.Step.{Step}
 use Rattle.parser.specs.declared.Step.the-variants.{Read}
 use Rattle.parser.proofs.Laws.After.{After, went, list-more, list-done}
@@ -76,18 +77,18 @@ module _ (source tokens : List ℕ) (good : Tokens tokens) (e : Names) where
   v = viewOf language17 source (rowsOf tokens)
 
   abbrev Under : ℕ → ℕ → ℕ → Makes → ℕ → List Symbol → Step → List ℕ → Step → List ℕ → Type 0
-  Under x n below m least ss = After productions v (tokenRoom tokens) e n below m least 0 (part x ∷ []) ss
+  Under x n below m least ss = After productions v (tokenRoom tokens) e n below m least 0 (derived x ∷ []) ss
 
   abbrev Part : ℕ → ℕ → ℕ → Step → List ℕ → Step → List ℕ → Type 0
-  Part n least x = Reads productions v (tokenRoom tokens) e n least 0 (part x ∷ [])
+  Part n least x = Reads productions v (tokenRoom tokens) e n least 0 (derived x ∷ [])
 
   declaration-choice : (j : ℕ)
-      → choice productions v e declaration j ≡ nth declaration (kindAlternative declaration (kindOf (v .class e j))) productions
+      → choice productions v e declaration j ≡ nth declaration (kindAlternative declaration (kindOfClass (v .class e j))) productions
   declaration-choice j = declaration-at v e j (class-low source tokens good e j)
 
   -- an alternative that makes a row is begun with its token
   pub declaration-begun : {n below : ℕ} (number : ℕ) {m : Makes} {cs : List ℕ} {ss : List Symbol} {s s₀ : Step} {t : List ℕ}
-      → nth declaration number productions ≡ one (rule declaration m (token cs ∷ ss)) → Begins declaration number cs
+      → nth declaration number productions ≡ selected (ruleOf declaration m (token cs ∷ ss)) → Begins declaration number cs
       → kindAlternative declaration (nextKind tokens s) ≡ number → Within tokens 1 s → n ≡ suc below → levels m ≡ 1
       → s₀ ≡ opened s → Under declaration n below m 1 ss s t s₀ t
   declaration-begun number is opens = begun-at source tokens good e declaration-choice is opens
@@ -113,15 +114,15 @@ module _ (source tokens : List ℕ) (good : Tokens tokens) (e : Names) where
   unfolding rowed levels
   function-deep s is spent =
       row-deep source tokens good e s
-      (one (rule function (row functionRow) (only at ∷ token name ∷ part typeParameters ∷ part parameters ∷ only arrow ∷ part type
-      ∷ part block ∷ []))) spent refl (λ j k. function-one v e j (class-low source tokens good e j) (k ∙ is))
+      (selected (ruleOf function (givesRow functionRow) (only at ∷ token name ∷ derived typeParameters ∷ derived parameters ∷ only arrow ∷ derived type
+      ∷ derived block ∷ []))) spent refl (λ j k. function-one v e j (class-low source tokens good e j) (k ∙ is))
 
   -- .. and so are traits and implementations, ..
   interface-deep : {n : ℕ} (s : Step) {t : List ℕ} → nextKind tokens s ≡ percent → n ≡ 0 → Part n 1 interface s t (refusedAt 7 s) t
   unfolding rowed levels
   interface-deep s is spent =
       row-deep source tokens good e s
-      (one (rule interface rowOf (only percent ∷ token name ∷ part typeParameters ∷ part interfaceRest ∷ []))) spent refl
+      (selected (ruleOf interface rowOf (only percent ∷ token name ∷ derived typeParameters ∷ derived interfaceRest ∷ []))) spent refl
       (λ j k. interface-one v e j (class-low source tokens good e j) (k ∙ is))
 
   -- .. and every declaration
@@ -148,40 +149,40 @@ module _ (source tokens : List ℕ) (good : Tokens tokens) (e : Names) where
 
   -- `$` STRING IDENT?
   pub import : {n below : ℕ} {s s₀ s₁ s₂ : Step} {t : List ℕ} → kindAlternative declaration (nextKind tokens s) ≡ 1
-      → Within tokens 1 s → n ≡ suc below → s₀ ≡ opened s → s₁ ≡ taken tokens string s₀ → s₂ ≡ takenIf tokens ident s₁
-      → Under declaration n below (row importRow) 2 [] s t s₂ t
+      → Within tokens 1 s → n ≡ suc below → s₀ ≡ opened s → s₁ ≡ takenKind tokens string s₀ → s₂ ≡ takenIf tokens ident s₁
+      → Under declaration n below (givesRow importRow) 2 [] s t s₂ t
   unfolding levels between and
-  import begins within level to₀ to₁ to₂ =
-      let a₀ = declaration-begun 1 declaration-import declaration-import-begins begins within level refl to₀ in
+  import beginsPart within level to₀ to₁ to₂ =
+      let a₀ = declaration-begun 1 declaration-import declaration-import-begins beginsPart within level refl to₀ in
       took-if source tokens good e ident name-marks (λ j. alias-some v e j (class-low source tokens good e j))
       (λ j. alias-none v e j (class-low source tokens good e j)) (took-mark source tokens good e string a₀ refl to₁) to₂
 
   -- `&` STRING `@` IDENT field* `→` type
   pub foreign : {n below : ℕ} {s s₀ s₁ s₂ s₃ s₄ s₅ s₆ : Step} {t t₁ t₂ : List ℕ}
       → kindAlternative declaration (nextKind tokens s) ≡ 2 → Within tokens 1 s → n ≡ suc below → s₀ ≡ opened s
-      → s₁ ≡ taken tokens string s₀ → s₂ ≡ taken tokens at s₁ → s₃ ≡ taken tokens ident s₂ → Part below 0 fields s₃ t s₄ t₁
-      → s₅ ≡ taken tokens arrow s₄ → Part below 1 type s₅ t₁ s₆ t₂ → Under declaration n below (row foreignRow) 6 [] s t s₆ t₂
+      → s₁ ≡ takenKind tokens string s₀ → s₂ ≡ takenKind tokens at s₁ → s₃ ≡ takenKind tokens ident s₂ → Part below 0 fields s₃ t s₄ t₁
+      → s₅ ≡ takenKind tokens arrow s₄ → Part below 1 type s₅ t₁ s₆ t₂ → Under declaration n below (givesRow foreignRow) 6 [] s t s₆ t₂
   unfolding levels between and
-  foreign begins within level to₀ to₁ to₂ to₃ d₄ to₅ d₆ =
+  foreign beginsPart within level to₀ to₁ to₂ to₃ d₄ to₅ d₆ =
       let fixed = names-fixed source tokens good e in
-      let a₀ = declaration-begun 2 declaration-foreign declaration-foreign-begins begins within level refl to₀ in
+      let a₀ = declaration-begun 2 declaration-foreign declaration-foreign-begins beginsPart within level refl to₀ in
       let a₂ = took-mark source tokens good e at (took-mark source tokens good e string a₀ refl to₁) refl to₂ in
       let a₄ = went productions v tokens e fixed (took-name source tokens good e a₂ to₃) d₄ in
       went productions v tokens e fixed (took-mark source tokens good e arrow a₄ refl to₅) d₆
 
   -- as many declarations as there are
   pub declarations-go : {n below least more : ℕ} {m : Makes} {ts ss : List Symbol} {s s' s'' : Step} {t t' t'' : List ℕ}
-      → After productions v (tokenRoom tokens) e n below m least more ts (part declarations ∷ ss) s t s' t'
-      → begins declaration tokens s' ≡ true → Part below 1 declaration s' t' s'' t''
-      → After productions v (tokenRoom tokens) e n below m least more ts (part declarations ∷ ss) s t s'' t''
+      → After productions v (tokenRoom tokens) e n below m least more ts (derived declarations ∷ ss) s t s' t'
+      → beginsPart declaration tokens s' ≡ true → Part below 1 declaration s' t' s'' t''
+      → After productions v (tokenRoom tokens) e n below m least more ts (derived declarations ∷ ss) s t s'' t''
   declarations-go {s' = s'} a is =
       list-more productions v tokens e (names-fixed source tokens good e) a (λ (j k : ℕ) (read : s' ≡ Read j k).
       declarations-more v e j (class-low source tokens good e j)
       (begins-there source tokens good e declaration s' is j k read))
 
   pub declarations-end : {n below least more : ℕ} {m : Makes} {ts ss : List Symbol} {s s' : Step} {t t' : List ℕ}
-      → After productions v (tokenRoom tokens) e n below m least more ts (part declarations ∷ ss) s t s' t'
-      → begins declaration tokens s' ≡ false → After productions v (tokenRoom tokens) e n below m least more ts ss s t s' t'
+      → After productions v (tokenRoom tokens) e n below m least more ts (derived declarations ∷ ss) s t s' t'
+      → beginsPart declaration tokens s' ≡ false → After productions v (tokenRoom tokens) e n below m least more ts ss s t s' t'
   declarations-end {s' = s'} a is =
       list-done productions v tokens e (names-fixed source tokens good e) a (λ (j k : ℕ) (read : s' ≡ Read j k).
       declarations-done v e j (class-low source tokens good e j)

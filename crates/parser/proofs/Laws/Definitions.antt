@@ -9,36 +9,37 @@ use lib.Dec.{eqb}
 use borrow.Author.Tests.{eqb-true}
 use Rattle.lexer.specs.Tests.{and, between}
 use Rattle.lexer.specs.internal.Kinds.{ident, bar, tilde, leftBrace, rightBrace}
-use Rattle.lexer.specs.Table.{tokenRoom, rowsOf, kindAt}
+use Rattle.lexer.specs.Table.{tokenRoom}
+use Rattle.lexer.specs.internal.TokenRows.{rowsOf, kindAt}
 use Rattle.lexer.proofs.Laws.Tests.{and-left}
-use Rattle.grammar.specs.Grammars.{Condition, query, Symbol, token, part, when, unless, Makes, row, rowOf, says, noRow, Names, View}
-use Rattle.grammar.specs.Grammars.{asked}
+use Rattle.grammar.specs.Grammars.{Condition, query, Symbol, token, derived, when, unless, Makes, givesRow, rowOf, givesKind, noRow}
+use Rattle.grammar.specs.Grammars.{Names, View, asked}
 use Rattle.grammar.specs.Rows.{levels}
-use Rattle.grammar.specs.Reading.{one, choice}
-use Rattle.grammar.specs.internal.RowKinds.{structRow, enumRow, constantRow, variantRow}
+use Rattle.grammar.specs.Reading.{selected, choice}
+use Rattle.tree.specs.internal.RowKinds.{structRow, enumRow, constantRow, variantRow}
 use Rattle.grammar.specs.internal.Nonterminals.{declaration, definition, mutable, fields, variants, variant, payloadTypes, typeParameters}
 use Rattle.grammar.specs.internal.Nonterminals.{literal, type, structParameters}
 use Rattle.grammar.specs.internal.Classes.{name}
 use Rattle.grammar.specs.Nurl.{productions, plainName}
-use Rattle.grammar.specs.internal.Nurl.{rule, opensStruct, one as only}
+use Rattle.grammar.specs.internal.Productions.{ruleOf, opensStruct, kindToken as only}
 use Rattle.grammar.specs.Languages.{language17}
 use Rattle.grammar.specs.Sources.{viewOf}
-use Rattle.grammar.specs.Alternatives.{kindOf, kindAlternative, nth}
+use Rattle.grammar.specs.internal.Alternatives.{kindOfClass, kindAlternative, nth}
 use Rattle.grammar.proofs.Laws.Views.{classes}
 use Rattle.grammar.proofs.Laws.Alternatives17.{declaration-definition, definition-struct, definition-enum, definition-constant}
 use Rattle.grammar.proofs.Laws.Alternatives17.{definition-constant-tilde, definition-none, mutable-some, mutable-none, variants-more}
 use Rattle.grammar.proofs.Laws.Alternatives17.{variants-done, variant-one, payloadTypes-more, payloadTypes-done, payloadTypes-done-plain}
-use Rattle.parser.specs.Readings.{Reads}
-use Rattle.parser.specs.Steps.{Tokens, Within, nextKind, begins, askedAt, AnswersKinds, payloadBegins, refusedAt, taken, takenIf}
-use Rattle.parser.specs.Steps.{opened, reserved}
+use Rattle.parser.specs.internal.Readings.{Reads}
+use Rattle.parser.specs.internal.Steps.{Tokens, Within, nextKind, beginsPart, askedAt, AnswersKinds, payloadBegins, refusedAt}
+use Rattle.parser.specs.internal.Steps.{takenKind, takenIf, opened, rowLeft}
 use Rattle.parser.specs.declared.Step.{Step}
 use Rattle.parser.specs.declared.Step.the-variants.{Read, Refused}
 use Rattle.parser.proofs.Laws.Gives.{gives-deep, barred-part, barred-condition, barred-skip, Takes, takes, vain}
 use Rattle.parser.proofs.Laws.After.{After, begun-part, went, looked, spoken, held, wider, done, deep-at, fewer, list-more}
 use Rattle.parser.proofs.Laws.After.{list-done, after-within, within-wider}
 use Rattle.parser.proofs.Laws.Views.{class-kind, class-low, names-fixed}
-use Rattle.parser.proofs.Laws.Readers.{taken-fewer}
-use Rattle.parser.proofs.Laws.Readers.{reached, begins-some, begins-none, kind-room, mark-marks, took-mark, took-name, spoken-by}
+use Rattle.parser.proofs.Laws.Readers.{taken-fewer, reached, begins-some, begins-none, kind-room, mark-marks, took-mark, took-name}
+use Rattle.parser.proofs.Laws.Readers.{spoken-by}
 use Rattle.parser.proofs.Laws.Openings.{no-type, declaration-definition-begins}
 use Rattle.parser.proofs.Laws.Questions.{struct-opens, plain-next, plain-class}
 use Rattle.parser.proofs.Laws.Lists.{struct-list}
@@ -50,8 +51,8 @@ use Rattle.parser.proofs.Laws.Types.{type-none}
 
 -- no token is taken for a row that is left
 asked-reserved : (q : Condition) (source tokens : List ℕ) (e : Names) (s : Step)
-    → askedAt q source tokens e (reserved s) ≡ askedAt q source tokens e s
-unfolding askedAt reserved
+    → askedAt q source tokens e (rowLeft s) ≡ askedAt q source tokens e s
+unfolding askedAt rowLeft
 asked-reserved q source tokens e (Read at last) = refl
 asked-reserved q source tokens e (Refused number place) = refl
 
@@ -60,26 +61,26 @@ module _ (source tokens : List ℕ) (good : Tokens tokens) (e : Names) where
   v = viewOf language17 source (rowsOf tokens)
 
   abbrev Under : ℕ → ℕ → ℕ → Makes → ℕ → List Symbol → Step → List ℕ → Step → List ℕ → Type 0
-  Under x n below m least ss = After productions v (tokenRoom tokens) e n below m least 0 (part x ∷ []) ss
+  Under x n below m least ss = After productions v (tokenRoom tokens) e n below m least 0 (derived x ∷ []) ss
 
   abbrev Part : ℕ → ℕ → ℕ → Step → List ℕ → Step → List ℕ → Type 0
-  Part n least x = Reads productions v (tokenRoom tokens) e n least 0 (part x ∷ [])
+  Part n least x = Reads productions v (tokenRoom tokens) e n least 0 (derived x ∷ [])
 
   -- `:` is what a definition begins with
   defined : {n below : ℕ} {s s₀ : Step} {t : List ℕ} → kindAlternative declaration (nextKind tokens s) ≡ 4 → Within tokens 1 s
-      → n ≡ suc below → s₀ ≡ opened s → Under declaration n below rowOf 1 (part definition ∷ []) s t s₀ t
+      → n ≡ suc below → s₀ ≡ opened s → Under declaration n below rowOf 1 (derived definition ∷ []) s t s₀ t
   unfolding levels
-  defined begins within level =
-      declaration-begun source tokens good e 4 declaration-definition declaration-definition-begins begins within level refl
+  defined beginsPart within level =
+      declaration-begun source tokens good e 4 declaration-definition declaration-definition-begins beginsPart within level refl
 
-  struct-ident : (s : Step) → AnswersKinds (query opensStruct) tokens s true → (j k : ℕ) → s ≡ Read j k → kindOf (v .class e j) ≡ ident
+  struct-ident : (s : Step) → AnswersKinds (query opensStruct) tokens s true → (j k : ℕ) → s ≡ Read j k → kindOfClass (v .class e j) ≡ ident
   struct-ident s opens j k read =
       class-kind source tokens good e j
       ∙ eqb-true _ _ (and-left _ _ (struct-opens tokens s j k read source e ∙ sym (opens source e)))
 
   struct-takes : (s : Step) → AnswersKinds (query opensStruct) tokens s true → (j k : ℕ) → s ≡ Read j k
-      → Takes productions v e definition (rule definition (says structRow)
-      (when (query opensStruct) ∷ token name ∷ part structParameters ∷ only leftBrace ∷ part fields ∷ only rightBrace ∷ [])) j
+      → Takes productions v e definition (ruleOf definition (givesKind structRow)
+      (when (query opensStruct) ∷ token name ∷ derived structParameters ∷ only leftBrace ∷ derived fields ∷ only rightBrace ∷ [])) j
   unfolding asked
   struct-takes s opens j k read =
       takes (definition-struct v e j (class-low source tokens good e j)
@@ -88,12 +89,12 @@ module _ (source tokens : List ℕ) (good : Tokens tokens) (e : Names) where
   -- a struct: `:` IDENT type-parameters? `{` field* `}`
   pub struct : {n below : ℕ} {s s₀ s₁ s₂ s₃ s₄ s₅ : Step} {t t₁ t₂ : List ℕ} → kindAlternative declaration (nextKind tokens s) ≡ 4
       → Within tokens 1 s → n ≡ suc below → s₀ ≡ opened s → AnswersKinds (query opensStruct) tokens s₀ true
-      → s₁ ≡ taken tokens ident s₀ → Part below 0 typeParameters s₁ t s₂ t₁ → s₃ ≡ taken tokens leftBrace s₂
-      → Part below 0 fields s₃ t₁ s₄ t₂ → s₅ ≡ taken tokens rightBrace s₄ → Under declaration n below (row structRow) 4 [] s t s₅ t₂
+      → s₁ ≡ takenKind tokens ident s₀ → Part below 0 typeParameters s₁ t s₂ t₁ → s₃ ≡ takenKind tokens leftBrace s₂
+      → Part below 0 fields s₃ t₁ s₄ t₂ → s₅ ≡ takenKind tokens rightBrace s₄ → Under declaration n below (givesRow structRow) 4 [] s t s₅ t₂
   unfolding between and
-  struct {s₀ = s₀} begins within level to₀ opens to₁ d₂ to₃ d₄ to₅ =
+  struct {s₀ = s₀} beginsPart within level to₀ opens to₁ d₂ to₃ d₄ to₅ =
       let fixed = names-fixed source tokens good e in
-      let said = spoken productions v tokens e fixed (defined begins within level to₀) (struct-takes s₀ opens) refl in
+      let said = spoken productions v tokens e fixed (defined beginsPart within level to₀) (struct-takes s₀ opens) refl in
       let asks = held productions v tokens e fixed said
       (met-here source tokens e (query opensStruct) s₀ true (sym (opens source e))) in
       let list = struct-list source tokens good e d₂ in
@@ -103,25 +104,25 @@ module _ (source tokens : List ℕ) (good : Tokens tokens) (e : Names) where
 
   -- an enum: `:` `|` IDENT `{` variant* `}`
   pub enum : {n below : ℕ} {s s₀ s₁ s₂ s₃ s₄ s₅ : Step} {t t₁ : List ℕ} → kindAlternative declaration (nextKind tokens s) ≡ 4
-      → Within tokens 1 s → n ≡ suc below → s₀ ≡ opened s → nextKind tokens s₀ ≡ bar → s₁ ≡ taken tokens bar s₀
-      → s₂ ≡ taken tokens ident s₁ → s₃ ≡ taken tokens leftBrace s₂ → Part below 0 variants s₃ t s₄ t₁
-      → s₅ ≡ taken tokens rightBrace s₄ → Under declaration n below (row enumRow) 5 [] s t s₅ t₁
+      → Within tokens 1 s → n ≡ suc below → s₀ ≡ opened s → nextKind tokens s₀ ≡ bar → s₁ ≡ takenKind tokens bar s₀
+      → s₂ ≡ takenKind tokens ident s₁ → s₃ ≡ takenKind tokens leftBrace s₂ → Part below 0 variants s₃ t s₄ t₁
+      → s₅ ≡ takenKind tokens rightBrace s₄ → Under declaration n below (givesRow enumRow) 5 [] s t s₅ t₁
   unfolding between and
-  enum begins within level to₀ is to₁ to₂ to₃ d₄ to₅ =
+  enum beginsPart within level to₀ is to₁ to₂ to₃ d₄ to₅ =
       let said = spoken-by source tokens good e
-      (rule definition (says enumRow) (only bar ∷ token name ∷ only leftBrace ∷ part variants ∷ only rightBrace ∷ []))
-      (defined begins within level to₀) (λ j k. definition-enum v e j (class-low source tokens good e j) (k ∙ is)) refl in
+      (ruleOf definition (givesKind enumRow) (only bar ∷ token name ∷ only leftBrace ∷ derived variants ∷ only rightBrace ∷ []))
+      (defined beginsPart within level to₀) (λ j k. definition-enum v e j (class-low source tokens good e j) (k ∙ is)) refl in
       let a₂ = took-name source tokens good e (took-mark source tokens good e bar said refl to₁) to₂ in
       let a₃ = took-mark source tokens good e leftBrace a₂ refl to₃ in
       took-mark source tokens good e rightBrace (went productions v tokens e (names-fixed source tokens good e) a₃ d₄) refl to₅
 
   constant-takes : (s : Step) → AnswersKinds (query opensStruct) tokens s false → eqb (nextKind tokens s) bar ≡ false
       → (j k : ℕ) → s ≡ Read j k
-      → Takes productions v e definition (rule definition (says constantRow)
-      (unless (query opensStruct) ∷ part mutable ∷ part type ∷ token name ∷ part literal ∷ [])) j
+      → Takes productions v e definition (ruleOf definition (givesKind constantRow)
+      (unless (query opensStruct) ∷ derived mutable ∷ derived type ∷ token name ∷ derived literal ∷ [])) j
   unfolding asked nth
   constant-takes s shut other j k read =
-      by (kindAlternative type (kindOf (v .class e j))) (eqb (kindOf (v .class e j)) tilde) refl refl
+      by (kindAlternative type (kindOfClass (v .class e j))) (eqb (kindOfClass (v .class e j)) tilde) refl refl
     where
       low : v .class e j < classes
       low = class-low source tokens good e j
@@ -129,25 +130,25 @@ module _ (source tokens : List ℕ) (good : Tokens tokens) (e : Names) where
       closed : v .holds opensStruct j ≡ false
       closed = asked-here source tokens e (query opensStruct) s false (sym (shut source e)) j k read
 
-      by : (a : ℕ) (b : Bool) → kindAlternative type (kindOf (v .class e j)) ≡ a → eqb (kindOf (v .class e j)) tilde ≡ b
-          → Takes productions v e definition (rule definition (says constantRow)
-          (unless (query opensStruct) ∷ part mutable ∷ part type ∷ token name ∷ part literal ∷ [])) j
+      by : (a : ℕ) (b : Bool) → kindAlternative type (kindOfClass (v .class e j)) ≡ a → eqb (kindOfClass (v .class e j)) tilde ≡ b
+          → Takes productions v e definition (ruleOf definition (givesKind constantRow)
+          (unless (query opensStruct) ∷ derived mutable ∷ derived type ∷ token name ∷ derived literal ∷ [])) j
       by (suc a) b h h' = takes (definition-constant v e j low closed h)
       by zero true h h' = takes (definition-constant-tilde v e j low closed (eqb-true _ _ h'))
       by zero false h h' =
           vain (definition-none v e j low closed h h' (ap (λ (n : ℕ). eqb n bar) (reached source tokens good e s j k read) ∙ other))
-          (barred-condition (barred-skip (rule mutable noRow []) (mutable-none v e j low h') refl refl
+          (barred-condition (barred-skip (ruleOf mutable noRow []) (mutable-none v e j low h') refl refl
           (barred-part (type-none source tokens good e j h))))
 
   -- a constant: `:` `~`? type IDENT literal
   pub constant : {n below : ℕ} {s s₀ s₁ s₂ s₃ s₄ : Step} {t t₁ t₂ : List ℕ} → kindAlternative declaration (nextKind tokens s) ≡ 4
       → Within tokens 1 s → n ≡ suc below → s₀ ≡ opened s → AnswersKinds (query opensStruct) tokens s₀ false
       → eqb (nextKind tokens s₀) bar ≡ false → s₁ ≡ takenIf tokens tilde s₀ → Part below 1 type s₁ t s₂ t₁
-      → s₃ ≡ taken tokens ident s₂ → Part below 1 literal s₃ t₁ s₄ t₂ → Under declaration n below (row constantRow) 4 [] s t s₄ t₂
+      → s₃ ≡ takenKind tokens ident s₂ → Part below 1 literal s₃ t₁ s₄ t₂ → Under declaration n below (givesRow constantRow) 4 [] s t s₄ t₂
   unfolding between and
-  constant {s₀ = s₀} begins within level to₀ shut other to₁ d₂ to₃ d₄ =
+  constant {s₀ = s₀} beginsPart within level to₀ shut other to₁ d₂ to₃ d₄ =
       let fixed = names-fixed source tokens good e in
-      let said = spoken productions v tokens e fixed (defined begins within level to₀) (constant-takes s₀ shut other) refl in
+      let said = spoken productions v tokens e fixed (defined beginsPart within level to₀) (constant-takes s₀ shut other) refl in
       let asks = held productions v tokens e fixed said
       (met-here source tokens e (query opensStruct) s₀ false (sym (shut source e))) in
       let a₁ = took-if source tokens good e tilde (mark-marks tilde refl) (λ j. mutable-some v e j (class-low source tokens good e j))
@@ -165,15 +166,15 @@ module _ (source tokens : List ℕ) (good : Tokens tokens) (e : Names) where
 
   -- as many variants as there are
   pub variants-go : {n below least more : ℕ} {m : Makes} {ts ss : List Symbol} {s s' s'' : Step} {t t' t'' : List ℕ}
-      → After productions v (tokenRoom tokens) e n below m least more ts (part variants ∷ ss) s t s' t'
+      → After productions v (tokenRoom tokens) e n below m least more ts (derived variants ∷ ss) s t s' t'
       → askedAt plainName source tokens e s' ≡ true → Part below 1 variant s' t' s'' t''
-      → After productions v (tokenRoom tokens) e n below m least more ts (part variants ∷ ss) s t s'' t''
+      → After productions v (tokenRoom tokens) e n below m least more ts (derived variants ∷ ss) s t s'' t''
   variants-go {s' = s'} a is =
       list-more productions v tokens e (names-fixed source tokens good e) a (λ (j k : ℕ) (read : s' ≡ Read j k).
       variants-more v e j (class-low source tokens good e j) (plain-class source tokens e true s' is j k read))
 
   pub variants-end : {n : ℕ} {s s' : Step} {t t' : List ℕ}
-      → After productions v (tokenRoom tokens) e n n noRow 0 0 (part variants ∷ []) (part variants ∷ []) s t s' t'
+      → After productions v (tokenRoom tokens) e n n noRow 0 0 (derived variants ∷ []) (derived variants ∷ []) s t s' t'
       → askedAt plainName source tokens e s' ≡ false → Part n 0 variants s t s' t'
   variants-end {s' = s'} a is =
       let fixed = names-fixed source tokens good e in
@@ -182,24 +183,24 @@ module _ (source tokens : List ℕ) (good : Tokens tokens) (e : Names) where
 
   -- the name of a variant
   pub variant-named : {n below : ℕ} {s s₀ s₁ : Step} {t : List ℕ} → Within tokens 0 s → n ≡ suc below
-      → askedAt plainName source tokens e s ≡ true → s₀ ≡ reserved s → s₁ ≡ taken tokens ident s₀
-      → Under variant n below (row variantRow) 1 (part payloadTypes ∷ []) s t s₁ t
+      → askedAt plainName source tokens e s ≡ true → s₀ ≡ rowLeft s → s₁ ≡ takenKind tokens ident s₀
+      → Under variant n below (givesRow variantRow) 1 (derived payloadTypes ∷ []) s t s₁ t
   unfolding levels
   variant-named {n} {below} {s} {s₀} {s₁} {t} within level is to₀ to₁ =
       let fixed = names-fixed source tokens good e in
       let a₀ = begun-part productions v tokens e fixed within level refl (λ (j k : ℕ) (read : s ≡ Read j k).
       variant-one v e j (class-low source tokens good e j) (plain-class source tokens e true s is j k read)) in
       let asks = held productions v tokens e fixed a₀
-      (met-here source tokens e plainName (reserved s) true (asked-reserved plainName source tokens e s ∙ is)) in
-      let a₁ = took-name source tokens good e asks (to₁ ∙ ap (taken tokens ident) to₀) in
-      let reach : Within tokens 2 (reserved s) = within-wider tokens (after-within productions v tokens e fixed asks) (omega arith) in
+      (met-here source tokens e plainName (rowLeft s) true (asked-reserved plainName source tokens e s ∙ is)) in
+      let a₁ = took-name source tokens good e asks (to₁ ∙ ap (takenKind tokens ident) to₀) in
+      let reach : Within tokens 2 (rowLeft s) = within-wider tokens (after-within productions v tokens e fixed asks) (omega arith) in
       fewer productions v tokens e fixed a₁
       (rw (to₁, to₀) (taken-fewer tokens (λ (j : ℕ). eqb (kindAt tokens j) ident) (kind-room tokens ident (omega arith)) reach))
 
   -- a variant: IDENT type*
   pub variant-reads : {n below : ℕ} {s s₀ s₁ s₂ : Step} {t t₁ : List ℕ} → Within tokens 0 s → n ≡ suc below
-      → askedAt plainName source tokens e s ≡ true → s₀ ≡ reserved s → s₁ ≡ taken tokens ident s₀ → Part below 0 payloadTypes s₁ t s₂ t₁
-      → Under variant n below (row variantRow) 1 [] s t s₂ t₁
+      → askedAt plainName source tokens e s ≡ true → s₀ ≡ rowLeft s → s₁ ≡ takenKind tokens ident s₀ → Part below 0 payloadTypes s₁ t s₂ t₁
+      → Under variant n below (givesRow variantRow) 1 [] s t s₂ t₁
   variant-reads within level is to₀ to₁ d₂ =
       went productions v tokens e (names-fixed source tokens good e) (variant-named within level is to₀ to₁) d₂
 
@@ -211,16 +212,16 @@ module _ (source tokens : List ℕ) (good : Tokens tokens) (e : Names) where
       let fixed = names-fixed source tokens good e in
       rw spent (deep-at productions v tokens e fixed s (λ (j k : ℕ) (read : s ≡ Read j k).
       gives-deep productions v e fixed variant j
-      (rule variant (row variantRow) (when plainName ∷ token name ∷ part payloadTypes ∷ [])) []
+      (ruleOf variant (givesRow variantRow) (when plainName ∷ token name ∷ derived payloadTypes ∷ [])) []
       (variant-one v e j (class-low source tokens good e j) (plain-class source tokens e true s is j k read)) refl))
 
   payload-both : (s : Step) → payloadBegins source tokens e s ≡ true
-      → (askedAt plainName source tokens e s ≡ false) × (begins type tokens s ≡ true)
+      → (askedAt plainName source tokens e s ≡ false) × (beginsPart type tokens s ≡ true)
   unfolding payloadBegins
   payload-both s is = by (askedAt plainName source tokens e s) refl
     where
       by : (b : Bool) → askedAt plainName source tokens e s ≡ b
-          → (askedAt plainName source tokens e s ≡ false) × (begins type tokens s ≡ true)
+          → (askedAt plainName source tokens e s ≡ false) × (beginsPart type tokens s ≡ true)
       by true h = absurd (false≢true (rw h at is))
       by false h = (h, rw h at is)
 
@@ -230,21 +231,21 @@ module _ (source tokens : List ℕ) (good : Tokens tokens) (e : Names) where
 
   -- as many payload types as there are
   pub payloadTypes-go : {n : ℕ} {s s' s'' : Step} {t t' t'' : List ℕ}
-      → After productions v (tokenRoom tokens) e n n noRow 0 0 (part payloadTypes ∷ []) (part payloadTypes ∷ []) s t s' t'
+      → After productions v (tokenRoom tokens) e n n noRow 0 0 (derived payloadTypes ∷ []) (derived payloadTypes ∷ []) s t s' t'
       → payloadBegins source tokens e s' ≡ true → Part n 1 type s' t' s'' t''
-      → After productions v (tokenRoom tokens) e n n noRow 0 0 (part payloadTypes ∷ []) (part payloadTypes ∷ []) s t s'' t''
+      → After productions v (tokenRoom tokens) e n n noRow 0 0 (derived payloadTypes ∷ []) (derived payloadTypes ∷ []) s t s'' t''
   payloadTypes-go {s' = s'} a is d =
       let fixed = names-fixed source tokens good e in
       let both = payload-both s' is in
       let next = looked productions v tokens e fixed
-      {q = rule payloadTypes noRow (unless plainName ∷ part type ∷ part payloadTypes ∷ [])} a (λ (j k : ℕ) (read : s' ≡ Read j k).
+      {q = ruleOf payloadTypes noRow (unless plainName ∷ derived type ∷ derived payloadTypes ∷ [])} a (λ (j k : ℕ) (read : s' ≡ Read j k).
       takes (payloadTypes-more v e j (class-low source tokens good e j) (plain-class source tokens e false s' (both .0) j k read)
       (ap (kindAlternative type) (reached source tokens good e s' j k read) ∙ begins-some type tokens s' (both .1)))) refl in
       let asks = held productions v tokens e fixed next (met-here source tokens e plainName s' false (both .0)) in
       wider productions v tokens e fixed (went productions v tokens e fixed asks d) (omega arith) (omega arith)
 
   payload-done : (s : Step) → payloadBegins source tokens e s ≡ false → (j k : ℕ) → s ≡ Read j k
-      → choice productions v e payloadTypes j ≡ one (rule payloadTypes noRow [])
+      → choice productions v e payloadTypes j ≡ selected (ruleOf payloadTypes noRow [])
   unfolding payloadBegins
   payload-done s is j k read = by (askedAt plainName source tokens e s) refl
     where
@@ -252,14 +253,14 @@ module _ (source tokens : List ℕ) (good : Tokens tokens) (e : Names) where
       low = class-low source tokens good e j
 
       by : (b : Bool) → askedAt plainName source tokens e s ≡ b
-          → choice productions v e payloadTypes j ≡ one (rule payloadTypes noRow [])
+          → choice productions v e payloadTypes j ≡ selected (ruleOf payloadTypes noRow [])
       by true h = payloadTypes-done-plain v e j low (plain-class source tokens e true s h j k read)
       by false h =
           payloadTypes-done v e j low (ap (kindAlternative type) (reached source tokens good e s j k read)
           ∙ begins-none type tokens s (rw h at is))
 
   pub payloadTypes-end : {n : ℕ} {s s' : Step} {t t' : List ℕ}
-      → After productions v (tokenRoom tokens) e n n noRow 0 0 (part payloadTypes ∷ []) (part payloadTypes ∷ []) s t s' t'
+      → After productions v (tokenRoom tokens) e n n noRow 0 0 (derived payloadTypes ∷ []) (derived payloadTypes ∷ []) s t s' t'
       → payloadBegins source tokens e s' ≡ false → Part n 0 payloadTypes s t s' t'
   payloadTypes-end {s' = s'} a is =
       let fixed = names-fixed source tokens good e in

@@ -8,26 +8,27 @@ use lib.Dec.{eqb}
 use borrow.Author.Tests.{eqb-true}
 use Rattle.lexer.specs.Tests.{and, between}
 use Rattle.lexer.specs.internal.Kinds.{ident, at, percent, leftBrace, rightBrace, arrow}
-use Rattle.lexer.specs.Table.{tokenRoom, rowsOf}
-use Rattle.grammar.specs.Grammars.{Symbol, token, part, Makes, row, rowOf, says, noRow, Names, View}
+use Rattle.lexer.specs.Table.{tokenRoom}
+use Rattle.lexer.specs.internal.TokenRows.{rowsOf}
+use Rattle.grammar.specs.Grammars.{Symbol, token, derived, Makes, givesRow, rowOf, givesKind, noRow, Names, View}
 use Rattle.grammar.specs.Rows.{levels}
-use Rattle.grammar.specs.Reading.{one, choice}
-use Rattle.grammar.specs.internal.RowKinds.{traitRow, implRow, functionRow, headerRow}
+use Rattle.grammar.specs.Reading.{selected, choice}
+use Rattle.tree.specs.internal.RowKinds.{traitRow, implRow, functionRow, headerRow}
 use Rattle.grammar.specs.internal.Nonterminals.{declaration, interface, interfaceRest, methods, method, body, functions, function}
 use Rattle.grammar.specs.internal.Nonterminals.{parameters, typeParameters, block, type}
 use Rattle.grammar.specs.internal.Classes.{name}
 use Rattle.grammar.specs.Nurl.{productions}
-use Rattle.grammar.specs.internal.Nurl.{rule, one as only}
+use Rattle.grammar.specs.internal.Productions.{ruleOf, kindToken as only}
 use Rattle.grammar.specs.Languages.{language17}
 use Rattle.grammar.specs.Sources.{viewOf}
-use Rattle.grammar.specs.Alternatives.{kindOf, kindAlternative, nth}
+use Rattle.grammar.specs.internal.Alternatives.{kindOfClass, kindAlternative, nth}
 use Rattle.grammar.proofs.Laws.Checks.{below}
 use Rattle.grammar.proofs.Laws.Views.{classes}
-use Rattle.grammar.proofs.Laws.Alternatives17.{function-one, functions-more, functions-done, method-one, methods-more}
-use Rattle.grammar.proofs.Laws.Alternatives17.{methods-done, body-some, body-none, interface-one, interfaceRest-trait}
-use Rattle.grammar.proofs.Laws.Alternatives17.{interfaceRest-impl, interfaceRest-none}
-use Rattle.parser.specs.Readings.{Reads}
-use Rattle.parser.specs.Steps.{Tokens, Within, nextKind, refusedAt, taken, opened}
+use Rattle.grammar.proofs.Laws.Alternatives17.{function-one, functions-more, functions-done, method-one, methods-more, methods-done}
+use Rattle.grammar.proofs.Laws.Alternatives17.{body-some, body-none, interface-one, interfaceRest-trait, interfaceRest-impl}
+use Rattle.grammar.proofs.Laws.Alternatives17.{interfaceRest-none}
+use Rattle.parser.specs.internal.Readings.{Reads}
+use Rattle.parser.specs.internal.Steps.{Tokens, Within, nextKind, refusedAt, takenKind, opened}
 use Rattle.parser.specs.declared.Step.{Step}
 use Rattle.parser.specs.declared.Step.the-variants.{Read}
 use Rattle.parser.proofs.Laws.Gives.{barred-part, Takes, takes, vain}
@@ -43,23 +44,23 @@ at-kind n is = let same = eqb-true n at is in omega arith
 
 -- what comes after the `@` of a function or a method
 abbrev header : List Symbol → List Symbol
-header ss = token name ∷ part typeParameters ∷ part parameters ∷ only arrow ∷ part type ∷ ss
+header ss = token name ∷ derived typeParameters ∷ derived parameters ∷ only arrow ∷ derived type ∷ ss
 
 module _ (source tokens : List ℕ) (good : Tokens tokens) (e : Names) where
   abbrev v : View
   v = viewOf language17 source (rowsOf tokens)
 
   abbrev Under : ℕ → ℕ → ℕ → Makes → ℕ → List Symbol → Step → List ℕ → Step → List ℕ → Type 0
-  Under x n below m least ss = After productions v (tokenRoom tokens) e n below m least 0 (part x ∷ []) ss
+  Under x n below m least ss = After productions v (tokenRoom tokens) e n below m least 0 (derived x ∷ []) ss
 
   abbrev Part : ℕ → ℕ → ℕ → Step → List ℕ → Step → List ℕ → Type 0
-  Part n least x = Reads productions v (tokenRoom tokens) e n least 0 (part x ∷ [])
+  Part n least x = Reads productions v (tokenRoom tokens) e n least 0 (derived x ∷ [])
 
   -- `@` IDENT type-parameters? parameter* `→` type
   headed : {n below x : ℕ} {m : Makes} {ss : List Symbol} {s s₀ s₁ s₂ s₃ s₄ s₅ : Step} {t t₁ t₂ t₃ : List ℕ}
-      → ((j : ℕ) → kindOf (v .class e j) ≡ at → choice productions v e x j ≡ one (rule x m (only at ∷ header ss))) → levels m ≡ 1
-      → nextKind tokens s ≡ at → Within tokens 1 s → n ≡ suc below → s₀ ≡ opened s → s₁ ≡ taken tokens ident s₀
-      → Part below 0 typeParameters s₁ t s₂ t₁ → Part below 0 parameters s₂ t₁ s₃ t₂ → s₄ ≡ taken tokens arrow s₃
+      → ((j : ℕ) → kindOfClass (v .class e j) ≡ at → choice productions v e x j ≡ selected (ruleOf x m (only at ∷ header ss))) → levels m ≡ 1
+      → nextKind tokens s ≡ at → Within tokens 1 s → n ≡ suc below → s₀ ≡ opened s → s₁ ≡ takenKind tokens ident s₀
+      → Part below 0 typeParameters s₁ t s₂ t₁ → Part below 0 parameters s₂ t₁ s₃ t₂ → s₄ ≡ takenKind tokens arrow s₃
       → Part below 1 type s₄ t₂ s₅ t₃ → Under x n below m 4 ss s t s₅ t₃
   unfolding between and
   headed chosen makes is within level to₀ to₁ d₂ d₃ to₄ d₅ =
@@ -71,60 +72,60 @@ module _ (source tokens : List ℕ) (good : Tokens tokens) (e : Names) where
 
   -- a function: its header and its block
   pub function-reads : {n below : ℕ} {s s₀ s₁ s₂ s₃ s₄ s₅ s₆ : Step} {t t₁ t₂ t₃ t₄ : List ℕ}
-      → nextKind tokens s ≡ at → Within tokens 1 s → n ≡ suc below → s₀ ≡ opened s → s₁ ≡ taken tokens ident s₀
-      → Part below 0 typeParameters s₁ t s₂ t₁ → Part below 0 parameters s₂ t₁ s₃ t₂ → s₄ ≡ taken tokens arrow s₃
-      → Part below 1 type s₄ t₂ s₅ t₃ → Part below 1 block s₅ t₃ s₆ t₄ → Under function n below (row functionRow) 5 [] s t s₆ t₄
+      → nextKind tokens s ≡ at → Within tokens 1 s → n ≡ suc below → s₀ ≡ opened s → s₁ ≡ takenKind tokens ident s₀
+      → Part below 0 typeParameters s₁ t s₂ t₁ → Part below 0 parameters s₂ t₁ s₃ t₂ → s₄ ≡ takenKind tokens arrow s₃
+      → Part below 1 type s₄ t₂ s₅ t₃ → Part below 1 block s₅ t₃ s₆ t₄ → Under function n below (givesRow functionRow) 5 [] s t s₆ t₄
   unfolding levels
   function-reads is within level to₀ to₁ d₂ d₃ to₄ d₅ d₆ =
       went productions v tokens e (names-fixed source tokens good e)
       (headed (λ j. function-one v e j (class-low source tokens good e j)) refl is within level to₀ to₁ d₂ d₃ to₄ d₅) d₆
 
   methoded : {n below : ℕ} {s s₀ s₁ s₂ s₃ s₄ s₅ : Step} {t t₁ t₂ t₃ : List ℕ}
-      → nextKind tokens s ≡ at → Within tokens 1 s → n ≡ suc below → s₀ ≡ opened s → s₁ ≡ taken tokens ident s₀
-      → Part below 0 typeParameters s₁ t s₂ t₁ → Part below 0 parameters s₂ t₁ s₃ t₂ → s₄ ≡ taken tokens arrow s₃
-      → Part below 1 type s₄ t₂ s₅ t₃ → Under method n below rowOf 4 (part body ∷ []) s t s₅ t₃
+      → nextKind tokens s ≡ at → Within tokens 1 s → n ≡ suc below → s₀ ≡ opened s → s₁ ≡ takenKind tokens ident s₀
+      → Part below 0 typeParameters s₁ t s₂ t₁ → Part below 0 parameters s₂ t₁ s₃ t₂ → s₄ ≡ takenKind tokens arrow s₃
+      → Part below 1 type s₄ t₂ s₅ t₃ → Under method n below rowOf 4 (derived body ∷ []) s t s₅ t₃
   unfolding levels
   methoded = headed (λ j. method-one v e j (class-low source tokens good e j)) refl
 
   -- a method with a block is a function, ..
   pub method-reads : {n below : ℕ} {s s₀ s₁ s₂ s₃ s₄ s₅ s₆ : Step} {t t₁ t₂ t₃ t₄ : List ℕ}
-      → nextKind tokens s ≡ at → Within tokens 1 s → n ≡ suc below → s₀ ≡ opened s → s₁ ≡ taken tokens ident s₀
-      → Part below 0 typeParameters s₁ t s₂ t₁ → Part below 0 parameters s₂ t₁ s₃ t₂ → s₄ ≡ taken tokens arrow s₃
+      → nextKind tokens s ≡ at → Within tokens 1 s → n ≡ suc below → s₀ ≡ opened s → s₁ ≡ takenKind tokens ident s₀
+      → Part below 0 typeParameters s₁ t s₂ t₁ → Part below 0 parameters s₂ t₁ s₃ t₂ → s₄ ≡ takenKind tokens arrow s₃
       → Part below 1 type s₄ t₂ s₅ t₃ → eqb (nextKind tokens s₅) leftBrace ≡ true → Part below 1 block s₅ t₃ s₆ t₄
-      → Under method n below (row functionRow) 5 [] s t s₆ t₄
+      → Under method n below (givesRow functionRow) 5 [] s t s₆ t₄
   method-reads {s₅ = s₅} is within level to₀ to₁ d₂ d₃ to₄ d₅ brace d₆ =
-      let said = spoken-by source tokens good e (rule body (says functionRow) (part block ∷ []))
+      let said = spoken-by source tokens good e (ruleOf body (givesKind functionRow) (derived block ∷ []))
       (methoded is within level to₀ to₁ d₂ d₃ to₄ d₅)
       (λ j k. body-some v e j (class-low source tokens good e j) (ap (λ (n : ℕ). eqb n leftBrace) k ∙ brace)) refl in
       went productions v tokens e (names-fixed source tokens good e) said d₆
 
   -- .. one without a header
   pub header-reads : {n below : ℕ} {s s₀ s₁ s₂ s₃ s₄ s₅ : Step} {t t₁ t₂ t₃ : List ℕ}
-      → nextKind tokens s ≡ at → Within tokens 1 s → n ≡ suc below → s₀ ≡ opened s → s₁ ≡ taken tokens ident s₀
-      → Part below 0 typeParameters s₁ t s₂ t₁ → Part below 0 parameters s₂ t₁ s₃ t₂ → s₄ ≡ taken tokens arrow s₃
-      → Part below 1 type s₄ t₂ s₅ t₃ → eqb (nextKind tokens s₅) leftBrace ≡ false → Under method n below (row headerRow) 4 [] s t s₅ t₃
+      → nextKind tokens s ≡ at → Within tokens 1 s → n ≡ suc below → s₀ ≡ opened s → s₁ ≡ takenKind tokens ident s₀
+      → Part below 0 typeParameters s₁ t s₂ t₁ → Part below 0 parameters s₂ t₁ s₃ t₂ → s₄ ≡ takenKind tokens arrow s₃
+      → Part below 1 type s₄ t₂ s₅ t₃ → eqb (nextKind tokens s₅) leftBrace ≡ false → Under method n below (givesRow headerRow) 4 [] s t s₅ t₃
   header-reads is within level to₀ to₁ d₂ d₃ to₄ d₅ brace =
-      spoken-by source tokens good e (rule body (says headerRow) []) (methoded is within level to₀ to₁ d₂ d₃ to₄ d₅)
+      spoken-by source tokens good e (ruleOf body (givesKind headerRow) []) (methoded is within level to₀ to₁ d₂ d₃ to₄ d₅)
       (λ j k. body-none v e j (class-low source tokens good e j) (ap (λ (n : ℕ). eqb n leftBrace) k ∙ brace)) refl
 
   -- a method is too deep where no level is left
   pub method-deep : {n : ℕ} (s : Step) {t : List ℕ} → nextKind tokens s ≡ at → n ≡ 0 → Part n 1 method s t (refusedAt 7 s) t
   unfolding rowed levels
   method-deep s is spent =
-      row-deep source tokens good e s (one (rule method rowOf (only at ∷ header (part body ∷ [])))) spent refl
+      row-deep source tokens good e s (selected (ruleOf method rowOf (only at ∷ header (derived body ∷ [])))) spent refl
       (λ j k. method-one v e j (class-low source tokens good e j) (k ∙ is))
 
   -- as many functions as there are
   pub functions-go : {n below least more : ℕ} {m : Makes} {ts ss : List Symbol} {s s' s'' : Step} {t t' t'' : List ℕ}
-      → After productions v (tokenRoom tokens) e n below m least more ts (part functions ∷ ss) s t s' t'
+      → After productions v (tokenRoom tokens) e n below m least more ts (derived functions ∷ ss) s t s' t'
       → eqb (nextKind tokens s') at ≡ true → Part below 1 function s' t' s'' t''
-      → After productions v (tokenRoom tokens) e n below m least more ts (part functions ∷ ss) s t s'' t''
+      → After productions v (tokenRoom tokens) e n below m least more ts (derived functions ∷ ss) s t s'' t''
   functions-go {s' = s'} a is =
       list-more productions v tokens e (names-fixed source tokens good e) a (λ (j k : ℕ) (read : s' ≡ Read j k).
       functions-more v e j (class-low source tokens good e j) (reached source tokens good e s' j k read ∙ eqb-true _ _ is))
 
   pub functions-end : {n : ℕ} {s s' : Step} {t t' : List ℕ}
-      → After productions v (tokenRoom tokens) e n n noRow 0 0 (part functions ∷ []) (part functions ∷ []) s t s' t'
+      → After productions v (tokenRoom tokens) e n n noRow 0 0 (derived functions ∷ []) (derived functions ∷ []) s t s' t'
       → eqb (nextKind tokens s') at ≡ false → Part n 0 functions s t s' t'
   functions-end {s' = s'} a is =
       let fixed = names-fixed source tokens good e in
@@ -133,15 +134,15 @@ module _ (source tokens : List ℕ) (good : Tokens tokens) (e : Names) where
 
   -- .. and of methods
   pub methods-go : {n below least more : ℕ} {m : Makes} {ts ss : List Symbol} {s s' s'' : Step} {t t' t'' : List ℕ}
-      → After productions v (tokenRoom tokens) e n below m least more ts (part methods ∷ ss) s t s' t'
+      → After productions v (tokenRoom tokens) e n below m least more ts (derived methods ∷ ss) s t s' t'
       → eqb (nextKind tokens s') at ≡ true → Part below 1 method s' t' s'' t''
-      → After productions v (tokenRoom tokens) e n below m least more ts (part methods ∷ ss) s t s'' t''
+      → After productions v (tokenRoom tokens) e n below m least more ts (derived methods ∷ ss) s t s'' t''
   methods-go {s' = s'} a is =
       list-more productions v tokens e (names-fixed source tokens good e) a (λ (j k : ℕ) (read : s' ≡ Read j k).
       methods-more v e j (class-low source tokens good e j) (reached source tokens good e s' j k read ∙ eqb-true _ _ is))
 
   pub methods-end : {n : ℕ} {s s' : Step} {t t' : List ℕ}
-      → After productions v (tokenRoom tokens) e n n noRow 0 0 (part methods ∷ []) (part methods ∷ []) s t s' t'
+      → After productions v (tokenRoom tokens) e n n noRow 0 0 (derived methods ∷ []) (derived methods ∷ []) s t s' t'
       → eqb (nextKind tokens s') at ≡ false → Part n 0 methods s t s' t'
   methods-end {s' = s'} a is =
       let fixed = names-fixed source tokens good e in
@@ -150,8 +151,8 @@ module _ (source tokens : List ℕ) (good : Tokens tokens) (e : Names) where
 
   -- `%` IDENT type-parameters?
   interfaced : {n below : ℕ} {s s₀ s₁ s₂ : Step} {t t₁ : List ℕ} → kindAlternative declaration (nextKind tokens s) ≡ 5
-      → Within tokens 1 s → n ≡ suc below → s₀ ≡ opened s → s₁ ≡ taken tokens ident s₀ → Part below 0 typeParameters s₁ t s₂ t₁
-      → Under interface n below rowOf 2 (part interfaceRest ∷ []) s t s₂ t₁
+      → Within tokens 1 s → n ≡ suc below → s₀ ≡ opened s → s₁ ≡ takenKind tokens ident s₀ → Part below 0 typeParameters s₁ t s₂ t₁
+      → Under interface n below rowOf 2 (derived interfaceRest ∷ []) s t s₂ t₁
   unfolding levels between and
   interfaced begins within level to₀ to₁ d₂ =
       let a₀ = begun-mark source tokens good e percent refl (λ j. interface-one v e j (class-low source tokens good e j))
@@ -160,31 +161,31 @@ module _ (source tokens : List ℕ) (good : Tokens tokens) (e : Names) where
 
   -- a trait: `%` IDENT type-parameters? `{` method* `}`
   pub trait : {n below : ℕ} {s s₀ s₁ s₂ s₃ s₄ s₅ : Step} {t t₁ t₂ : List ℕ} → kindAlternative declaration (nextKind tokens s) ≡ 5
-      → Within tokens 1 s → n ≡ suc below → s₀ ≡ opened s → s₁ ≡ taken tokens ident s₀ → Part below 0 typeParameters s₁ t s₂ t₁
-      → eqb (nextKind tokens s₂) leftBrace ≡ true → s₃ ≡ taken tokens leftBrace s₂ → Part below 0 methods s₃ t₁ s₄ t₂
-      → s₅ ≡ taken tokens rightBrace s₄ → Under interface n below (row traitRow) 4 [] s t s₅ t₂
+      → Within tokens 1 s → n ≡ suc below → s₀ ≡ opened s → s₁ ≡ takenKind tokens ident s₀ → Part below 0 typeParameters s₁ t s₂ t₁
+      → eqb (nextKind tokens s₂) leftBrace ≡ true → s₃ ≡ takenKind tokens leftBrace s₂ → Part below 0 methods s₃ t₁ s₄ t₂
+      → s₅ ≡ takenKind tokens rightBrace s₄ → Under interface n below (givesRow traitRow) 4 [] s t s₅ t₂
   unfolding between and
   trait begins within level to₀ to₁ d₂ brace to₃ d₄ to₅ =
       let said = spoken-by source tokens good e
-      (rule interfaceRest (says traitRow) (only leftBrace ∷ part methods ∷ only rightBrace ∷ []))
+      (ruleOf interfaceRest (givesKind traitRow) (only leftBrace ∷ derived methods ∷ only rightBrace ∷ []))
       (interfaced begins within level to₀ to₁ d₂)
       (λ j k. interfaceRest-trait v e j (class-low source tokens good e j) (k ∙ eqb-true _ _ brace)) refl in
       let a₃ = took-mark source tokens good e leftBrace said refl to₃ in
       let a₄ = went productions v tokens e (names-fixed source tokens good e) a₃ d₄ in
       took-mark source tokens good e rightBrace a₄ refl to₅
 
-  impl-takes : (s : Step) → eqb (nextKind tokens s) leftBrace ≡ false → (j : ℕ) → kindOf (v .class e j) ≡ nextKind tokens s
+  impl-takes : (s : Step) → eqb (nextKind tokens s) leftBrace ≡ false → (j : ℕ) → kindOfClass (v .class e j) ≡ nextKind tokens s
       → Takes productions v e interfaceRest
-      (rule interfaceRest (says implRow) (part type ∷ only leftBrace ∷ part functions ∷ only rightBrace ∷ [])) j
+      (ruleOf interfaceRest (givesKind implRow) (derived type ∷ only leftBrace ∷ derived functions ∷ only rightBrace ∷ [])) j
   unfolding nth
-  impl-takes s brace j k = by (kindAlternative type (kindOf (v .class e j))) refl
+  impl-takes s brace j k = by (kindAlternative type (kindOfClass (v .class e j))) refl
     where
       low : v .class e j < classes
       low = class-low source tokens good e j
 
-      by : (a : ℕ) → kindAlternative type (kindOf (v .class e j)) ≡ a
+      by : (a : ℕ) → kindAlternative type (kindOfClass (v .class e j)) ≡ a
           → Takes productions v e interfaceRest
-          (rule interfaceRest (says implRow) (part type ∷ only leftBrace ∷ part functions ∷ only rightBrace ∷ [])) j
+          (ruleOf interfaceRest (givesKind implRow) (derived type ∷ only leftBrace ∷ derived functions ∷ only rightBrace ∷ [])) j
       by zero h =
           vain (interfaceRest-none v e j low (ap (λ (n : ℕ). eqb n leftBrace) k ∙ brace) h)
           (barred-part (type-none source tokens good e j h))
@@ -192,9 +193,9 @@ module _ (source tokens : List ℕ) (good : Tokens tokens) (e : Names) where
 
   -- an implementation: `%` IDENT type-parameters? type `{` function* `}`
   pub impl : {n below : ℕ} {s s₀ s₁ s₂ s₃ s₄ s₅ s₆ : Step} {t t₁ t₂ t₃ : List ℕ} → kindAlternative declaration (nextKind tokens s) ≡ 5
-      → Within tokens 1 s → n ≡ suc below → s₀ ≡ opened s → s₁ ≡ taken tokens ident s₀ → Part below 0 typeParameters s₁ t s₂ t₁
-      → eqb (nextKind tokens s₂) leftBrace ≡ false → Part below 1 type s₂ t₁ s₃ t₂ → s₄ ≡ taken tokens leftBrace s₃
-      → Part below 0 functions s₄ t₂ s₅ t₃ → s₆ ≡ taken tokens rightBrace s₅ → Under interface n below (row implRow) 5 [] s t s₆ t₃
+      → Within tokens 1 s → n ≡ suc below → s₀ ≡ opened s → s₁ ≡ takenKind tokens ident s₀ → Part below 0 typeParameters s₁ t s₂ t₁
+      → eqb (nextKind tokens s₂) leftBrace ≡ false → Part below 1 type s₂ t₁ s₃ t₂ → s₄ ≡ takenKind tokens leftBrace s₃
+      → Part below 0 functions s₄ t₂ s₅ t₃ → s₆ ≡ takenKind tokens rightBrace s₅ → Under interface n below (givesRow implRow) 5 [] s t s₆ t₃
   unfolding between and
   impl {s₂ = s₂} begins within level to₀ to₁ d₂ brace d₃ to₄ d₅ to₆ =
       let fixed = names-fixed source tokens good e in

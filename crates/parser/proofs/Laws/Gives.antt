@@ -8,12 +8,14 @@ use native.Mathlib.Omega.{arith}
 use native.Mathlib.Nat.{zero-add, suc-add}
 use lib.ListN.{length}
 use Rattle.lexer.specs.Tests.{pick, among}
-use Rattle.grammar.specs.Grammars.{Condition, Symbol, token, part, condition, Makes, noRow, Production, Names, View, met}
-use Rattle.grammar.specs.Rows.{Row, made, passed, firstSaid, levels}
-use Rattle.grammar.specs.Reading.{Outcome, ok, stuck, deep, spent, Choice, none, one, choice, onward, descend, enter, joined, readWithin}
-use Rattle.grammar.proofs.Laws.Grows.{Way, byFuel, Grows, same, from-spent, grows-onward, grows-pick, grows-descend}
-use Rattle.grammar.proofs.Laws.Grows.{grows-enter, more-fuel}
-use Rattle.parser.specs.Readings.{Gives}
+use Rattle.grammar.specs.Grammars.{Condition, Symbol, token, derived, condition, Makes, noRow, Production, Names, View, met}
+use Rattle.tree.specs.TreeTable.{Row}
+use Rattle.grammar.specs.Rows.{made, passed, firstSaid, levels}
+use Rattle.grammar.specs.Reading.{Outcome, ok, stuck, deep, spent, Choice, none, selected, choice, onward, descend, enter, joined}
+use Rattle.grammar.specs.Reading.{readWithin}
+use Rattle.grammar.proofs.Laws.Grows.{Way, byFuel, Grows, same, from-spent, grows-onward, grows-pick, grows-descend, grows-enter}
+use Rattle.grammar.proofs.Laws.Grows.{more-fuel}
+use Rattle.parser.specs.internal.Readings.{Gives}
 
 -- an outcome after these rows and what is said with them
 unfoldable pub after : List Row → ℕ → Outcome → Outcome
@@ -91,7 +93,7 @@ followed-enter : (c : Choice) (left i : ℕ) (within more : Production → ℕ �
     → followed (enter c left i within) rest ≡ enter c left i more
 unfolding followed enter onward
 followed-enter none left i within more rest f = refl
-followed-enter (one p) left i within more rest f = followed-descend (levels (p .makes)) left i (within p) (more p) rest (f p)
+followed-enter (selected p) left i within more rest f = followed-descend (levels (p .makes)) left i (within p) (more p) rest (f p)
 
 grows-after : {w : Way} {o p : Outcome} (rows : List Row) (said : ℕ) → Grows w o p → Grows w (after rows said o) (after rows said p)
 unfolding after
@@ -132,7 +134,7 @@ module _ (g : List Production) (v : View) (e : Names) where
       onward (readWithin g v f (v .inside x i e) below (p .right) i) (λ (j : ℕ) (inner : List Row) (said : ℕ).
       after (made (p .makes) i j said inner) (passed (p .makes) said) (rest j)))
 
-  reads-part : (f n x i : ℕ) (ss : List Symbol) → readWithin g v (suc f) e n (part x ∷ ss) i ≡ entered x i n f (readWithin g v f e n ss)
+  reads-part : (f n x i : ℕ) (ss : List Symbol) → readWithin g v (suc f) e n (derived x ∷ ss) i ≡ entered x i n f (readWithin g v f e n ss)
   unfolding readWithin joined after entered
   reads-part f n x i ss = refl
 
@@ -164,7 +166,7 @@ module _ (g : List Production) (v : View) (e : Names) where
       rw followed-pick (grows-pick (among cs (v .class e i)) _ _ i (append-apart f h (omega arith) n a b (suc i)))
   append-apart (suc f) h le n (condition t q ∷ a) b i =
       rw followed-pick (grows-pick (met v e i t q) _ _ i (append-apart f h (omega arith) n a b i))
-  append-apart (suc f) h le n (part x ∷ a) b i =
+  append-apart (suc f) h le n (derived x ∷ a) b i =
       rw (reads-part f n x i (a ++ b), reads-part f n x i a, followed-part)
       (grows-part x i n f f _ _ (omega arith) (λ (j : ℕ). append-apart f h (omega arith) n a b j))
 
@@ -180,7 +182,7 @@ module _ (g : List Production) (v : View) (e : Names) where
       rw followed-pick (grows-pick (among cs (v .class e i)) _ _ i (append-joined f h more n a b (suc i) (omega arith) (omega arith)))
   append-joined (suc f) h (suc more) n (condition t q ∷ a) b i le fits =
       rw followed-pick (grows-pick (met v e i t q) _ _ i (append-joined f h more n a b i (omega arith) (omega arith)))
-  append-joined (suc f) h (suc more) n (part x ∷ a) b i le fits =
+  append-joined (suc f) h (suc more) n (derived x ∷ a) b i le fits =
       rw (reads-part f n x i a, reads-part more n x i (a ++ b), followed-part)
       (grows-part x i n f more _ _ (omega arith) (λ (j : ℕ). append-joined f h more n a b j (omega arith) (omega arith)))
 
@@ -249,24 +251,24 @@ module _ (g : List Production) (v : View) (e : Names) where
   gives-unheld n i b q ss t = gives-suc 0 (λ (f : ℕ) (le : 0 ≤ f). rw t)
 
   -- after a part that is read, what is left
-  pub gives-then : {n i j said x : ℕ} {rows : List Row} {ss : List Symbol} {o : Outcome} → Gives g v e n (part x ∷ []) i (ok j rows said)
-      → Gives g v e n ss j o → Gives g v e n (part x ∷ ss) i (after rows said o)
+  pub gives-then : {n i j said x : ℕ} {rows : List Row} {ss : List Symbol} {o : Outcome} → Gives g v e n (derived x ∷ []) i (ok j rows said)
+      → Gives g v e n ss j o → Gives g v e n (derived x ∷ ss) i (after rows said o)
   unfolding followed onward
   gives-then {x = x} {ss = ss} c d =
-      gives-joined (part x ∷ []) ss (c .fuel + d .fuel) (λ (f : ℕ) (le : c .fuel + d .fuel ≤ f).
+      gives-joined (derived x ∷ []) ss (c .fuel + d .fuel) (λ (f : ℕ) (le : c .fuel + d .fuel ≤ f).
       rw (gives-from c f (omega arith), gives-from d f (omega arith)))
 
-  pub gives-then-stuck : {n i place x : ℕ} (ss : List Symbol) → Gives g v e n (part x ∷ []) i (stuck place)
-      → Gives g v e n (part x ∷ ss) i (stuck place)
+  pub gives-then-stuck : {n i place x : ℕ} (ss : List Symbol) → Gives g v e n (derived x ∷ []) i (stuck place)
+      → Gives g v e n (derived x ∷ ss) i (stuck place)
   unfolding followed onward
   gives-then-stuck {x = x} ss c =
-      gives-joined (part x ∷ []) ss (c .fuel) (λ (f : ℕ) (le : c .fuel ≤ f). rw (gives-from c f le))
+      gives-joined (derived x ∷ []) ss (c .fuel) (λ (f : ℕ) (le : c .fuel ≤ f). rw (gives-from c f le))
 
-  pub gives-then-deep : {n i place x : ℕ} (ss : List Symbol) → Gives g v e n (part x ∷ []) i (deep place)
-      → Gives g v e n (part x ∷ ss) i (deep place)
+  pub gives-then-deep : {n i place x : ℕ} (ss : List Symbol) → Gives g v e n (derived x ∷ []) i (deep place)
+      → Gives g v e n (derived x ∷ ss) i (deep place)
   unfolding followed onward
   gives-then-deep {x = x} ss c =
-      gives-joined (part x ∷ []) ss (c .fuel) (λ (f : ℕ) (le : c .fuel ≤ f). rw (gives-from c f le))
+      gives-joined (derived x ∷ []) ss (c .fuel) (λ (f : ℕ) (le : c .fuel ≤ f). rw (gives-from c f le))
 
   -- what nothing more is read after
   wraps : (m : Makes) (n i f : ℕ) → 1 ≤ f → (o : Outcome)
@@ -285,12 +287,12 @@ module _ (g : List Production) (v : View) (e : Names) (fixed : (x i : ℕ) → v
   unfolding entered enter
   entered-none x i n f rest c = rw (fixed x i, c)
 
-  entered-deep : (x i f : ℕ) (p : Production) (rest : ℕ → Outcome) → choice g v e x i ≡ one p → levels (p .makes) ≡ 1
+  entered-deep : (x i f : ℕ) (p : Production) (rest : ℕ → Outcome) → choice g v e x i ≡ selected p → levels (p .makes) ≡ 1
       → entered g v e x i 0 f rest ≡ deep i
   unfolding entered enter descend
   entered-deep x i f p rest c l = rw (fixed x i, c, l)
 
-  entered-one : (x i n below f : ℕ) (p : Production) (rest : ℕ → Outcome) → choice g v e x i ≡ one p → n ≡ levels (p .makes) + below
+  entered-one : (x i n below f : ℕ) (p : Production) (rest : ℕ → Outcome) → choice g v e x i ≡ selected p → n ≡ levels (p .makes) + below
       → entered g v e x i n f rest
       ≡ onward (readWithin g v f e below (p .right) i) (λ (j : ℕ) (inner : List Row) (said : ℕ).
       after (made (p .makes) i j said inner) (passed (p .makes) said) (rest j))
@@ -298,27 +300,27 @@ module _ (g : List Production) (v : View) (e : Names) (fixed : (x i : ℕ) → v
   entered-one x i n below f p rest c at = rw (fixed x i, c, at) (descend-below (levels (p .makes)) below i _)
 
   -- no production can be taken
-  pub gives-none : (n x i : ℕ) (ss : List Symbol) → choice g v e x i ≡ none → Gives g v e n (part x ∷ ss) i (stuck i)
+  pub gives-none : (n x i : ℕ) (ss : List Symbol) → choice g v e x i ≡ none → Gives g v e n (derived x ∷ ss) i (stuck i)
   gives-none n x i ss c =
       gives-suc g v e 0 (λ (f : ℕ) (le : 0 ≤ f). reads-part g v e f n x i ss ∙ entered-none x i n f (readWithin g v f e n ss) c)
 
   -- a row is called for and no level is left
-  pub gives-deep : (x i : ℕ) (p : Production) (ss : List Symbol) → choice g v e x i ≡ one p → levels (p .makes) ≡ 1
-      → Gives g v e 0 (part x ∷ ss) i (deep i)
+  pub gives-deep : (x i : ℕ) (p : Production) (ss : List Symbol) → choice g v e x i ≡ selected p → levels (p .makes) ≡ 1
+      → Gives g v e 0 (derived x ∷ ss) i (deep i)
   gives-deep x i p ss c l =
       gives-suc g v e 0 (λ (f : ℕ) (le : 0 ≤ f). reads-part g v e f 0 x i ss ∙ entered-deep x i f p (readWithin g v f e 0 ss) c l)
 
   -- a nonterminal alone is what its production gives, with its row
-  pub gives-within : {n below x i : ℕ} {o : Outcome} (p : Production) → choice g v e x i ≡ one p → n ≡ levels (p .makes) + below
-      → Gives g v e below (p .right) i o → Gives g v e n (part x ∷ []) i (wrapped (p .makes) i [] o)
+  pub gives-within : {n below x i : ℕ} {o : Outcome} (p : Production) → choice g v e x i ≡ selected p → n ≡ levels (p .makes) + below
+      → Gives g v e below (p .right) i o → Gives g v e n (derived x ∷ []) i (wrapped (p .makes) i [] o)
   gives-within {n} {below} {x} {i} {o} p c at d =
       gives-suc g v e (suc (d .fuel)) (λ (f : ℕ) (le : suc (d .fuel) ≤ f).
       reads-part g v e f n x i [] ∙ entered-one x i n below f p (readWithin g v f e n []) c at
       ∙ rw (gives-from g v e d f (omega arith)) (wraps g v e (p .makes) n i f (omega arith) o))
 
   -- a nonterminal whose production makes no row is what that gives, with what is left
-  pub gives-inlined : {n y i : ℕ} {ss : List Symbol} {o : Outcome} (q : Production) → choice g v e y i ≡ one q → q .makes ≡ noRow
-      → Gives g v e n (q .right ++ ss) i o → Gives g v e n (part y ∷ ss) i o
+  pub gives-inlined : {n y i : ℕ} {ss : List Symbol} {o : Outcome} (q : Production) → choice g v e y i ≡ selected q → q .makes ≡ noRow
+      → Gives g v e n (q .right ++ ss) i o → Gives g v e n (derived y ∷ ss) i o
   unfolding followed
   gives-inlined {n} {y} {i} {ss} {o} q c m d =
       gives-suc g v e (d .fuel) (λ (f : ℕ) (le : d .fuel ≤ f).
@@ -328,14 +330,14 @@ module _ (g : List Production) (v : View) (e : Names) (fixed : (x i : ℕ) → v
 -- the symbols cannot go on at this token
 pub data Barred (g : List Production) (v : View) (e : Names) : List Symbol → ℕ → Type 0 where
   barred-token : {cs : List ℕ} {ss : List Symbol} {i : ℕ} → among cs (v .class e i) ≡ false → Barred g v e (token cs ∷ ss) i
-  barred-part : {x i : ℕ} {ss : List Symbol} → choice g v e x i ≡ none → Barred g v e (part x ∷ ss) i
+  barred-part : {x i : ℕ} {ss : List Symbol} → choice g v e x i ≡ none → Barred g v e (derived x ∷ ss) i
   barred-condition : {b : Bool} {q : Condition} {ss : List Symbol} {i : ℕ} → Barred g v e ss i → Barred g v e (condition b q ∷ ss) i
-  barred-skip : {x i : ℕ} {ss : List Symbol} (p : Production) → choice g v e x i ≡ one p → p .makes ≡ noRow → p .right ≡ []
-      → Barred g v e ss i → Barred g v e (part x ∷ ss) i
+  barred-skip : {x i : ℕ} {ss : List Symbol} (p : Production) → choice g v e x i ≡ selected p → p .makes ≡ noRow → p .right ≡ []
+      → Barred g v e ss i → Barred g v e (derived x ∷ ss) i
 
 -- the reading takes q at this token, or takes nothing where q could not go on either
 pub data Takes (g : List Production) (v : View) (e : Names) (y : ℕ) (q : Production) (i : ℕ) : Type 0 where
-  takes : choice g v e y i ≡ one q → Takes g v e y q i
+  takes : choice g v e y i ≡ selected q → Takes g v e y q i
   vain : choice g v e y i ≡ none → Barred g v e (q .right) i → Takes g v e y q i
 
 module _ (g : List Production) (v : View) (e : Names) (fixed : (x i : ℕ) → v .inside x i e ≡ e) where
@@ -358,6 +360,6 @@ module _ (g : List Production) (v : View) (e : Names) (fixed : (x i : ℕ) → v
 
   -- whether taken or in vain, the nonterminal gives what the production gives, with what is left
   pub takes-inlined : {n y i : ℕ} {ss : List Symbol} {o : Outcome} {q : Production} → Takes g v e y q i → q .makes ≡ noRow
-      → Gives g v e n (q .right ++ ss) i o → Gives g v e n (part y ∷ ss) i o
+      → Gives g v e n (q .right ++ ss) i o → Gives g v e n (derived y ∷ ss) i o
   takes-inlined {q = q} (takes c) m d = gives-inlined g v e fixed q c m d
   takes-inlined {n} {y} {i} {ss} (vain c b) m d = rw (barred-stuck ss b d) (gives-none g v e fixed n y i ss c)

@@ -14,14 +14,15 @@ use types.Run.{OneOf}
 use borrow.Author.Tests.{eq-eqb, ne-eqb, eqb-true}
 use Rattle.lexer.specs.Tests.{and, or, among}
 use Rattle.lexer.specs.internal.Kinds.{ident, boolean, keyword}
-use Rattle.lexer.specs.Table.{tokenRoom, rowsOf, kindAt}
+use Rattle.lexer.specs.Table.{tokenRoom}
+use Rattle.lexer.specs.internal.TokenRows.{rowsOf, kindAt}
 use Rattle.lexer.proofs.Laws.Tests.{or-false, eqb-turn, and-left, and-right, or-else, or-right}
-use Rattle.typenames.specs.TypeNames.{items}
+use Rattle.lexer.specs.Items.{items}
 use Rattle.grammar.specs.Grammars.{endOfTokens}
 use Rattle.grammar.specs.Questions.{Piece, fits}
-use Rattle.grammar.specs.internal.Nurl.{single}
+use Rattle.grammar.specs.internal.Productions.{kindPiece}
 use Rattle.grammar.proofs.Laws.Patterns.{fits-at}
-use Rattle.parser.specs.Steps.{kindsAt, wordKinds}
+use Rattle.parser.specs.internal.Steps.{kindsAt, wordKinds}
 use Rattle.parser.proofs.Laws.Views.{kind-here, kind-inside}
 
 pub among-single : (k n : ℕ) → among (k ∷ []) n ≡ eqb n k
@@ -40,7 +41,7 @@ or-neither false b h = (refl, h)
 -- a pattern of single kinds
 unfoldable pub singles : List ℕ → List Piece
 singles [] = []
-singles (k ∷ ks) = single k ∷ singles ks
+singles (k ∷ ks) = kindPiece k ∷ singles ks
 
 pub kinds-fit : (source tokens : List ℕ) (at : ℕ) (ks : List ℕ) → among ks endOfTokens ≡ false
     → fits (singles ks) (drop at (items source (rowsOf tokens))) ≡ kindsAt tokens at ks

@@ -8,25 +8,26 @@ use lib.Dec.{eqb}
 use borrow.Author.Tests.{eqb-true, eqb-false}
 use Rattle.lexer.specs.Tests.{and, between, pick}
 use Rattle.lexer.specs.internal.Kinds.{leftBracket, rightBracket}
-use Rattle.lexer.specs.Table.{tokenRoom, rowsOf, kindAt}
-use Rattle.grammar.specs.Grammars.{Symbol, token, part, condition, when, unless, query, row, noRow, Names, View, asked, met}
+use Rattle.lexer.specs.Table.{tokenRoom}
+use Rattle.lexer.specs.internal.TokenRows.{rowsOf, kindAt}
+use Rattle.grammar.specs.Grammars.{Symbol, token, derived, condition, when, unless, query, givesRow, noRow, Names, View, asked, met}
 use Rattle.grammar.specs.Rows.{levels}
-use Rattle.grammar.specs.Reading.{Outcome, one, descend, enter, readWithin}
-use Rattle.grammar.specs.internal.RowKinds.{listRow}
+use Rattle.grammar.specs.Reading.{Outcome, selected, descend, enter, readWithin}
+use Rattle.tree.specs.internal.RowKinds.{listRow}
 use Rattle.grammar.specs.internal.Nonterminals.{moreNames, moreWords, nameList, wordList, typeParameters, typeArguments, structParameters}
-use Rattle.grammar.specs.internal.Classes.{word, declaredWord}
+use Rattle.grammar.specs.internal.Classes.{anyWord, declaredWord}
 use Rattle.grammar.specs.Questions.{answerTo}
 use Rattle.grammar.specs.Nurl.{productions, questions17}
-use Rattle.grammar.specs.internal.Nurl.{rule, opensNames, opensWords, opensStructNames, one as only}
+use Rattle.grammar.specs.internal.Productions.{ruleOf, opensNames, opensWords, opensStructNames, kindToken as only}
 use Rattle.grammar.specs.Languages.{language17, view}
 use Rattle.grammar.specs.Sources.{viewOf}
-use Rattle.grammar.specs.Alternatives.{kindOf}
+use Rattle.grammar.specs.internal.Alternatives.{kindOfClass}
 use Rattle.grammar.proofs.Laws.Checks.{below}
-use Rattle.grammar.proofs.Laws.Alternatives17.{nameList-one, wordList-one, typeParameters-some, typeParameters-none}
-use Rattle.grammar.proofs.Laws.Alternatives17.{typeArguments-some, typeArguments-none, structParameters-some, structParameters-none}
+use Rattle.grammar.proofs.Laws.Alternatives17.{nameList-one, wordList-one, typeParameters-some, typeParameters-none, typeArguments-some}
+use Rattle.grammar.proofs.Laws.Alternatives17.{typeArguments-none, structParameters-some, structParameters-none}
 use Rattle.grammar.proofs.Laws.Views.{classes}
-use Rattle.parser.specs.Readings.{Gives, Reads, read, refused6, refused7, passed}
-use Rattle.parser.specs.Steps.{Tokens, Within, nextKind, askedAt, AnswersKinds, refusedAt, taken, takenWord, opened}
+use Rattle.parser.specs.internal.Readings.{Gives, Reads, read, refused6, refused7, refusedBefore}
+use Rattle.parser.specs.internal.Steps.{Tokens, Within, nextKind, askedAt, AnswersKinds, refusedAt, takenKind, takenWord, opened}
 use Rattle.parser.specs.declared.Step.{Step}
 use Rattle.parser.specs.declared.Step.the-variants.{Read, Refused}
 use Rattle.parser.proofs.Laws.After.{After, start, went, looked, held, wider, done, after-within}
@@ -72,8 +73,8 @@ module _ (source tokens : List ℕ) (good : Tokens tokens) (e : Names) where
   -- a list is begun
   list-begun : {n below : ℕ} (keywords : Bool) {s s₀ : Step} {t : List ℕ} → nextKind tokens s ≡ leftBracket → Within tokens 1 s
       → n ≡ suc below → s₀ ≡ opened s
-      → After productions v (tokenRoom tokens) e n below (row listRow) 1 0 (part (listOf keywords) ∷ [])
-      (token (pick keywords word declaredWord) ∷ part (moreOf keywords) ∷ only rightBracket ∷ []) s t s₀ t
+      → After productions v (tokenRoom tokens) e n below (givesRow listRow) 1 0 (derived (listOf keywords) ∷ [])
+      (token (pick keywords anyWord declaredWord) ∷ derived (moreOf keywords) ∷ only rightBracket ∷ []) s t s₀ t
   unfolding levels between and
   list-begun true is within level to =
       begun-mark source tokens good e leftBracket refl (λ j. wordList-one v e j (class-low source tokens good e j))
@@ -93,8 +94,8 @@ module _ (source tokens : List ℕ) (good : Tokens tokens) (e : Names) where
   pub list-read : {n below : ℕ} (keywords : Bool) {s s₀ s₁ s₂ s₃ : Step} {t : List ℕ}
       → AnswersKinds (query (opensOf keywords)) tokens s true → Within tokens 1 s → n ≡ suc below
       → s₀ ≡ opened s → s₁ ≡ takenWord tokens keywords s₀
-      → Reads productions v (tokenRoom tokens) e below 0 0 (part (moreOf keywords) ∷ []) s₁ t s₂ t → s₃ ≡ taken tokens rightBracket s₂
-      → After productions v (tokenRoom tokens) e n below (row listRow) 3 0 (part (listOf keywords) ∷ []) [] s t s₃ t
+      → Reads productions v (tokenRoom tokens) e below 0 0 (derived (moreOf keywords) ∷ []) s₁ t s₂ t → s₃ ≡ takenKind tokens rightBracket s₂
+      → After productions v (tokenRoom tokens) e n below (givesRow listRow) 3 0 (derived (listOf keywords) ∷ []) [] s t s₃ t
   unfolding between and
   list-read keywords {s = s} opens within level to₀ to₁ d₂ to₃ =
       let a₀ = list-begun keywords (list-bracket keywords tokens s opens) within level to₀ in
@@ -103,29 +104,29 @@ module _ (source tokens : List ℕ) (good : Tokens tokens) (e : Names) where
 
   -- .. too deep where no level is left
   pub list-deep : {n : ℕ} (keywords : Bool) (s : Step) {t : List ℕ} → AnswersKinds (query (opensOf keywords)) tokens s true → n ≡ 0
-      → Reads productions v (tokenRoom tokens) e n 1 0 (part (listOf keywords) ∷ []) s t (refusedAt 7 s) t
+      → Reads productions v (tokenRoom tokens) e n 1 0 (derived (listOf keywords) ∷ []) s t (refusedAt 7 s) t
   unfolding rowed levels
   list-deep true s opens spent =
       row-deep source tokens good e s
-      (one (rule wordList (row listRow) (only leftBracket ∷ token word ∷ part moreWords ∷ only rightBracket ∷ []))) spent refl
-      (λ (j : ℕ) (k : kindOf (v .class e j) ≡ nextKind tokens s).
+      (selected (ruleOf wordList (givesRow listRow) (only leftBracket ∷ token anyWord ∷ derived moreWords ∷ only rightBracket ∷ []))) spent refl
+      (λ (j : ℕ) (k : kindOfClass (v .class e j) ≡ nextKind tokens s).
       wordList-one v e j (class-low source tokens good e j) (k ∙ list-bracket true tokens s opens))
   list-deep false s opens spent =
       row-deep source tokens good e s
-      (one (rule nameList (row listRow) (only leftBracket ∷ token declaredWord ∷ part moreNames ∷ only rightBracket ∷ []))) spent refl
-      (λ (j : ℕ) (k : kindOf (v .class e j) ≡ nextKind tokens s).
+      (selected (ruleOf nameList (givesRow listRow) (only leftBracket ∷ token declaredWord ∷ derived moreNames ∷ only rightBracket ∷ []))) spent refl
+      (λ (j : ℕ) (k : kindOfClass (v .class e j) ≡ nextKind tokens s).
       nameList-one v e j (class-low source tokens good e j) (k ∙ list-bracket false tokens s opens))
 
   abbrev Optional : ℕ → Bool → List Symbol → Step → List ℕ → Step → List ℕ → Type 0
-  Optional n keywords ss = After productions v (tokenRoom tokens) e n n noRow 0 0 (part (optionalOf keywords) ∷ []) ss
+  Optional n keywords ss = After productions v (tokenRoom tokens) e n n noRow 0 0 (derived (optionalOf keywords) ∷ []) ss
 
   optional-opens : {n : ℕ} (keywords : Bool) {s : Step} {t : List ℕ} → AnswersKinds (query (opensOf keywords)) tokens s true
-      → Within tokens 0 s → Optional n keywords (part (listOf keywords) ∷ []) s t s t
+      → Within tokens 0 s → Optional n keywords (derived (listOf keywords) ∷ []) s t s t
   unfolding asked
   optional-opens true {s} opens within =
       let fixed = names-fixed source tokens good e in
       let answer = sym (opens source e) in
-      let a = looked productions v tokens e fixed {q = rule typeArguments noRow (when (query opensWords) ∷ part wordList ∷ [])}
+      let a = looked productions v tokens e fixed {q = ruleOf typeArguments noRow (when (query opensWords) ∷ derived wordList ∷ [])}
       (start productions v tokens e fixed within)
       (λ (j k : ℕ) (is : s ≡ Read j k). takes (typeArguments-some v e j (class-low source tokens good e j)
       (asked-here source tokens e (query opensWords) s true answer j k is)
@@ -134,7 +135,7 @@ module _ (source tokens : List ℕ) (good : Tokens tokens) (e : Names) where
   optional-opens false {s} opens within =
       let fixed = names-fixed source tokens good e in
       let answer = sym (opens source e) in
-      let a = looked productions v tokens e fixed {q = rule typeParameters noRow (when (query opensNames) ∷ part nameList ∷ [])}
+      let a = looked productions v tokens e fixed {q = ruleOf typeParameters noRow (when (query opensNames) ∷ derived nameList ∷ [])}
       (start productions v tokens e fixed within)
       (λ (j k : ℕ) (is : s ≡ Read j k). takes (typeParameters-some v e j (class-low source tokens good e j)
       (asked-here source tokens e (query opensNames) s true answer j k is)
@@ -143,8 +144,8 @@ module _ (source tokens : List ℕ) (good : Tokens tokens) (e : Names) where
 
   -- a list where one is opened
   pub optional-some : {n : ℕ} (keywords : Bool) {s s' : Step} {t t' : List ℕ} → AnswersKinds (query (opensOf keywords)) tokens s true
-      → Within tokens 0 s → Reads productions v (tokenRoom tokens) e n 1 0 (part (listOf keywords) ∷ []) s t s' t'
-      → Reads productions v (tokenRoom tokens) e n 0 0 (part (optionalOf keywords) ∷ []) s t s' t'
+      → Within tokens 0 s → Reads productions v (tokenRoom tokens) e n 1 0 (derived (listOf keywords) ∷ []) s t s' t'
+      → Reads productions v (tokenRoom tokens) e n 0 0 (derived (optionalOf keywords) ∷ []) s t s' t'
   optional-some keywords opens within d =
       let fixed = names-fixed source tokens good e in
       done productions v tokens e fixed
@@ -157,7 +158,7 @@ module _ (source tokens : List ℕ) (good : Tokens tokens) (e : Names) where
   optional-ends true {s} opens within =
       let fixed = names-fixed source tokens good e in
       let answer = sym (opens source e) in
-      let a = looked productions v tokens e fixed {q = rule typeArguments noRow (unless (query opensWords) ∷ [])}
+      let a = looked productions v tokens e fixed {q = ruleOf typeArguments noRow (unless (query opensWords) ∷ [])}
       (start productions v tokens e fixed within)
       (λ (j k : ℕ) (is : s ≡ Read j k). takes (typeArguments-none v e j (class-low source tokens good e j)
       (asked-here source tokens e (query opensWords) s false answer j k is))) refl in
@@ -165,7 +166,7 @@ module _ (source tokens : List ℕ) (good : Tokens tokens) (e : Names) where
   optional-ends false {s} opens within =
       let fixed = names-fixed source tokens good e in
       let answer = sym (opens source e) in
-      let a = looked productions v tokens e fixed {q = rule typeParameters noRow (unless (query opensNames) ∷ [])}
+      let a = looked productions v tokens e fixed {q = ruleOf typeParameters noRow (unless (query opensNames) ∷ [])}
       (start productions v tokens e fixed within)
       (λ (j k : ℕ) (is : s ≡ Read j k). takes (typeParameters-none v e j (class-low source tokens good e j)
       (asked-here source tokens e (query opensNames) s false answer j k is))) refl in
@@ -173,7 +174,7 @@ module _ (source tokens : List ℕ) (good : Tokens tokens) (e : Names) where
 
   -- .. and none where none is
   pub optional-none : {n : ℕ} (keywords : Bool) {s : Step} {t : List ℕ} → AnswersKinds (query (opensOf keywords)) tokens s false
-      → Within tokens 0 s → Reads productions v (tokenRoom tokens) e n 0 0 (part (optionalOf keywords) ∷ []) s t s t
+      → Within tokens 0 s → Reads productions v (tokenRoom tokens) e n 0 0 (derived (optionalOf keywords) ∷ []) s t s t
   optional-none keywords opens within =
       done productions v tokens e (names-fixed source tokens good e) (optional-ends keywords opens within)
 
@@ -190,7 +191,7 @@ module _ (source tokens : List ℕ) (good : Tokens tokens) (e : Names) where
   asked-same (suc f) n i b ss = rw (opens-same i)
 
   struct-same : (f n i : ℕ)
-      → readWithin productions v f e n (part structParameters ∷ []) i ≡ readWithin productions v f e n (part typeParameters ∷ []) i
+      → readWithin productions v f e n (derived structParameters ∷ []) i ≡ readWithin productions v f e n (derived typeParameters ∷ []) i
   unfolding readWithin enter descend levels askedAt asked nextKind
   struct-same zero n i = refl
   struct-same (suc f) n i = by (v .holds opensNames i) refl
@@ -198,13 +199,13 @@ module _ (source tokens : List ℕ) (good : Tokens tokens) (e : Names) where
       low : v .class e i < classes
       low = class-low source tokens good e i
 
-      by : (b : Bool) → v .holds opensNames i ≡ b → readWithin productions v (suc f) e n (part structParameters ∷ []) i
-          ≡ readWithin productions v (suc f) e n (part typeParameters ∷ []) i
+      by : (b : Bool) → v .holds opensNames i ≡ b → readWithin productions v (suc f) e n (derived structParameters ∷ []) i
+          ≡ readWithin productions v (suc f) e n (derived typeParameters ∷ []) i
       by true h =
           let fixed = names-fixed source tokens good e in
           let bracket = class-kind source tokens good e i ∙ bracket-asked false source tokens e (Read i 0) h in
           let some = structParameters-some v e i low (opens-same i ∙ h) bracket in
-          let same = asked-same f n i true (part nameList ∷ []) in
+          let same = asked-same f n i true (derived nameList ∷ []) in
           rw (fixed structParameters i, fixed typeParameters i, some, typeParameters-some v e i low h bracket, same)
       by false h =
           let fixed = names-fixed source tokens good e in
@@ -212,15 +213,15 @@ module _ (source tokens : List ℕ) (good : Tokens tokens) (e : Names) where
           let same = asked-same f n i false [] in
           rw (fixed structParameters i, fixed typeParameters i, none, typeParameters-none v e i low h, same)
 
-  gives-struct : {n i : ℕ} {o : Outcome} → Gives productions v e n (part typeParameters ∷ []) i o
-      → Gives productions v e n (part structParameters ∷ []) i o
+  gives-struct : {n i : ℕ} {o : Outcome} → Gives productions v e n (derived typeParameters ∷ []) i o
+      → Gives productions v e n (derived structParameters ∷ []) i o
   gives-struct {n} {i} g = record { fuel = g .fuel; reads = λ (more : ℕ). struct-same (more + g .fuel) n i ∙ g .reads more }
 
   -- .. so that what reads type parameters reads it
   pub struct-list : {n : ℕ} {s s' : Step} {t t' : List ℕ}
-      → Reads productions v (tokenRoom tokens) e n 0 0 (part typeParameters ∷ []) s t s' t'
-      → Reads productions v (tokenRoom tokens) e n 0 0 (part structParameters ∷ []) s t s' t'
+      → Reads productions v (tokenRoom tokens) e n 0 0 (derived typeParameters ∷ []) s t s' t'
+      → Reads productions v (tokenRoom tokens) e n 0 0 (derived structParameters ∷ []) s t s' t'
   struct-list (read g to table least few most) = read (gives-struct g) to table least few most
   struct-list (refused6 g size) = refused6 (gives-struct g) size
   struct-list (refused7 g size) = refused7 (gives-struct g) size
-  struct-list (passed size) = passed size
+  struct-list (refusedBefore size) = refusedBefore size

@@ -8,10 +8,10 @@ use native.Mathlib.Omega.{arith}
 use Rattle.lexer.specs.Tests.{among}
 use Rattle.lexer.specs.Table.{tokenRoom}
 use Rattle.grammar.specs.Grammars.{Symbol, Production, Names, View}
-use Rattle.grammar.specs.Alternatives.{kindAlternative}
-use Rattle.parser.specs.Readings as readings
-use Rattle.parser.specs.Readings.{Reads, read, refused6, refused7}
-use Rattle.parser.specs.Steps.{nextKind, begins, takenBy, wordKinds, takenWord}
+use Rattle.grammar.specs.internal.Alternatives.{kindAlternative}
+use Rattle.parser.specs.internal.Readings as readings
+use Rattle.parser.specs.internal.Readings.{Reads, read, refused6, refused7}
+use Rattle.parser.specs.internal.Steps.{nextKind, beginsPart, takenBy, wordKinds, takenWord}
 use Rattle.parser.specs.declared.Step.{Step}
 use Rattle.parser.specs.declared.Step.the-variants.{Read, Refused}
 use Rattle.parser.proofs.Laws.Kinds.{word-kind, word-inside}
@@ -30,7 +30,7 @@ unfolding ahead nextKind
 reads-falls tokens (read {i = i} {r = r} {j = j} {k = k} d at is from few to) some = omega arith
 reads-falls tokens (refused6 d l) some = omega arith
 reads-falls tokens (refused7 d l) some = omega arith
-reads-falls tokens (readings.passed l) some = absurd (omega arith)
+reads-falls tokens (readings.refusedBefore l) some = absurd (omega arith)
 
 -- and so does a word that is taken
 pub word-falls : (tokens : List ℕ) (keywords : Bool) (s : Step) → among (wordKinds keywords) (nextKind tokens s) ≡ true
@@ -40,7 +40,7 @@ word-falls tokens keywords (Read at row) is = let room = word-inside keywords to
 word-falls tokens keywords (Refused number place) is = let some = word-kind keywords 0 is in absurd (omega arith)
 
 -- what begins something has a kind
-pub begins-kind : (x : ℕ) → kindAlternative x 0 ≡ 0 → (tokens : List ℕ) (s : Step) → begins x tokens s ≡ true → 0 < nextKind tokens s
+pub begins-kind : (x : ℕ) → kindAlternative x 0 ≡ 0 → (tokens : List ℕ) (s : Step) → beginsPart x tokens s ≡ true → 0 < nextKind tokens s
 begins-kind x ends tokens s is =
     let some = begins-some x tokens s is in
     pos-of-ne-zero (λ (z : nextKind tokens s ≡ 0). let gone = ap (kindAlternative x) z ∙ ends in absurd (omega arith))

@@ -10,7 +10,7 @@ use Rattle.lexer.specs.internal.Kinds.{keyword, sizeof, dollar, ampersand, at, 
 use Rattle.lexer.specs.internal.Kinds.{bang, caret, backslash, question, dot, hash, star, questionQuestion}
 use Rattle.grammar.specs.internal.Nonterminals.{type, expression, statement, declaration}
 use Rattle.grammar.specs.internal.Classes.{name, typeWord, operators}
-use Rattle.grammar.specs.Alternatives.{kindAlternative}
+use Rattle.grammar.specs.internal.Alternatives.{kindAlternative}
 use Rattle.grammar.proofs.Laws.Checks.{below, implies}
 use Rattle.grammar.proofs.Laws.Groups17.{kindNumber, kind-same}
 use Rattle.parser.proofs.Laws.Readers.{opensWith}

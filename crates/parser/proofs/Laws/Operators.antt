@@ -6,8 +6,8 @@ use native.Mathlib.Nat.{pos-of-ne-zero}
 use native.Mathlib.Omega.{arith}
 use lib.Dec.{eqb}
 use borrow.Author.Tests.{eqb-true}
-use Rattle.grammar.specs.internal.RowKinds.{binaryRow, notRow, returnRow, complementRow, conditionalRow, memberRow}
-use Rattle.parser.specs.Forms.{operandCount, operationRow}
+use Rattle.tree.specs.internal.RowKinds.{binaryRow, notRow, returnRow, complementRow, conditionalRow, memberRow}
+use Rattle.parser.specs.internal.Operators.{operandCount, operationRow}
 use Rattle.parser.proofs.Laws.Readers.{beyond}
 
 -- an operator by the number of its alternative, with its operands and its row

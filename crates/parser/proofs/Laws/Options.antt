@@ -8,15 +8,16 @@ use native.Mathlib.Omega.{arith}
 use lib.Dec.{eqb}
 use Rattle.lexer.specs.Tests.{between}
 use Rattle.lexer.specs.internal.Kinds.{lastKind}
-use Rattle.lexer.specs.Table.{tokenRoom, rowsOf, kindAt}
-use Rattle.grammar.specs.Grammars.{next, Symbol, token, part, Makes, noRow, Names, View, asked, met}
-use Rattle.grammar.specs.Reading.{one, choice}
+use Rattle.lexer.specs.Table.{tokenRoom}
+use Rattle.lexer.specs.internal.TokenRows.{rowsOf, kindAt}
+use Rattle.grammar.specs.Grammars.{next, Symbol, token, derived, Makes, noRow, Names, View, asked, met}
+use Rattle.grammar.specs.Reading.{selected, choice}
 use Rattle.grammar.specs.Nurl.{productions}
-use Rattle.grammar.specs.internal.Nurl.{rule}
+use Rattle.grammar.specs.internal.Productions.{ruleOf}
 use Rattle.grammar.specs.Languages.{language17}
 use Rattle.grammar.specs.Sources.{viewOf}
-use Rattle.grammar.specs.Alternatives.{kindOf}
-use Rattle.parser.specs.Steps.{Tokens, Within, inside, elsewhere, nextKind, takenIf, opened}
+use Rattle.grammar.specs.internal.Alternatives.{kindOfClass}
+use Rattle.parser.specs.internal.Steps.{Tokens, Within, inside, elsewhere, nextKind, takenIf, opened}
 use Rattle.parser.specs.declared.Step.{Step}
 use Rattle.parser.proofs.Laws.After.{After, wider}
 use Rattle.parser.proofs.Laws.Steps.{if-taken, if-kept, agrees-self}
@@ -66,24 +67,24 @@ module _ (source tokens : List ℕ) (good : Tokens tokens) (e : Names) where
   -- a nonterminal that is such a token or nothing
   pub took-if : {n below least more y : ℕ} (kind : ℕ) {m : Makes} {cs : List ℕ} {ts ss : List Symbol} {s s' s'' : Step} {t t' : List ℕ}
       → marks cs kind ≡ true
-      → ((j : ℕ) → eqb (kindOf (v .class e j)) kind ≡ true → choice productions v e y j ≡ one (rule y noRow (token cs ∷ [])))
-      → ((j : ℕ) → eqb (kindOf (v .class e j)) kind ≡ false → choice productions v e y j ≡ one (rule y noRow []))
-      → After productions v (tokenRoom tokens) e n below m least more ts (part y ∷ ss) s t s' t'
+      → ((j : ℕ) → eqb (kindOfClass (v .class e j)) kind ≡ true → choice productions v e y j ≡ selected (ruleOf y noRow (token cs ∷ [])))
+      → ((j : ℕ) → eqb (kindOfClass (v .class e j)) kind ≡ false → choice productions v e y j ≡ selected (ruleOf y noRow []))
+      → After productions v (tokenRoom tokens) e n below m least more ts (derived y ∷ ss) s t s' t'
       → s'' ≡ takenIf tokens kind s' → After productions v (tokenRoom tokens) e n below m least more ts ss s t s'' t'
   took-if {y = y} kind {cs = cs} {s' = s'} is some none a =
       took-where kind is
-      (λ (h : eqb (nextKind tokens s') kind ≡ true). looked-by source tokens good e (rule y noRow (token cs ∷ [])) a
-      (λ (j : ℕ) (k : kindOf (v .class e j) ≡ nextKind tokens s'). some j (ap (λ (n : ℕ). eqb n kind) k ∙ h)) refl)
-      (λ (h : eqb (nextKind tokens s') kind ≡ false). looked-by source tokens good e (rule y noRow []) a
-      (λ (j : ℕ) (k : kindOf (v .class e j) ≡ nextKind tokens s'). none j (ap (λ (n : ℕ). eqb n kind) k ∙ h)) refl)
+      (λ (h : eqb (nextKind tokens s') kind ≡ true). looked-by source tokens good e (ruleOf y noRow (token cs ∷ [])) a
+      (λ (j : ℕ) (k : kindOfClass (v .class e j) ≡ nextKind tokens s'). some j (ap (λ (n : ℕ). eqb n kind) k ∙ h)) refl)
+      (λ (h : eqb (nextKind tokens s') kind ≡ false). looked-by source tokens good e (ruleOf y noRow []) a
+      (λ (j : ℕ) (k : kindOfClass (v .class e j) ≡ nextKind tokens s'). none j (ap (λ (n : ℕ). eqb n kind) k ∙ h)) refl)
 
   -- a kind that the next token is of, or is not, ..
-  pub kind-met : (kind : ℕ) (cs : List ℕ) (b : Bool) (j : ℕ) → marks cs kind ≡ true → eqb (kindOf (v .class e j)) kind ≡ b
+  pub kind-met : (kind : ℕ) (cs : List ℕ) (b : Bool) (j : ℕ) → marks cs kind ≡ true → eqb (kindOfClass (v .class e j)) kind ≡ b
       → met v e j b (next cs) ≡ true
   unfolding met asked
   kind-met kind cs b j is h = rw (class-marks source tokens good e kind cs is j, h) (agrees-self b)
 
   -- .. and a mark
-  pub mark-met : (kind : ℕ) (b : Bool) (j : ℕ) → between 2 lastKind kind ≡ true → eqb (kindOf (v .class e j)) kind ≡ b
+  pub mark-met : (kind : ℕ) (b : Bool) (j : ℕ) → between 2 lastKind kind ≡ true → eqb (kindOfClass (v .class e j)) kind ≡ b
       → met v e j b (next (kind ∷ [])) ≡ true
   mark-met kind b j is = kind-met kind (kind ∷ []) b j (mark-marks kind is)

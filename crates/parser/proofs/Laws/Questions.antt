@@ -13,18 +13,19 @@ use Rattle.lexer.specs.Text.{bytes}
 use Rattle.lexer.specs.Spellings.{same}
 use Rattle.lexer.specs.internal.Kinds.{ident, keyword, int, leftBrace, leftBracket, rightBracket, leftParen, at, arrow, star, question}
 use Rattle.lexer.specs.internal.Kinds.{bang}
-use Rattle.lexer.specs.Table.{rowsOf, kindAt}
+use Rattle.lexer.specs.internal.TokenRows.{rowsOf, kindAt, itemAt}
 use Rattle.lexer.proofs.Laws.Tests.{and-true, or-false, eqb-turn}
-use Rattle.typenames.specs.TypeNames.{itemOf, itemAt, items, isNamed}
+use Rattle.lexer.specs.Items.{itemOf, items}
+use Rattle.typenames.specs.TypeNames.{isNamed}
 use Rattle.grammar.specs.Grammars.{endOfTokens, Condition, query, Names, asked}
 use Rattle.grammar.specs.Classes.{typeName}
 use Rattle.grammar.specs.Questions.{Piece, oneOf, someOf, isText, runOf, fits, fitsOne, answerTo}
 use Rattle.grammar.specs.Nurl.{questions17, plainName}
-use Rattle.grammar.specs.internal.Nurl.{single, opensNames, opensWords, opensStruct, twoNames, opensClosure, zeroOrOne}
+use Rattle.grammar.specs.internal.Productions.{kindPiece, opensNames, opensWords, opensStruct, twoNames, opensClosure, zeroOrOne}
 use Rattle.grammar.specs.Languages.{language17, classOf, view}
 use Rattle.grammar.specs.Sources.{viewOf}
 use Rattle.grammar.proofs.Laws.Patterns.{fits-at, fits-spelled, run-at, fits-run}
-use Rattle.parser.specs.Steps.{kindsAt, askedAt, AnswersTexts, AnswersKinds, wordKinds, WordsEnd}
+use Rattle.parser.specs.internal.Steps.{kindsAt, askedAt, AnswersTexts, AnswersKinds, wordKinds, WordsEnd}
 use Rattle.parser.specs.declared.Step.{Step}
 use Rattle.parser.specs.declared.Step.the-variants.{Read, Refused}
 use Rattle.parser.proofs.Laws.Views.{item-here, kind-here}
@@ -160,19 +161,19 @@ module _ (tokens : List ℕ) (step : Step) (i row : ℕ) (s : step ≡ Read i ro
     list-asked : (source : List ℕ) (e : Names)
         → askedAt (query (pick keywords opensWords opensNames)) source tokens e step
         ≡ and (eqb (kindAt tokens i) leftBracket)
-        (fits (someOf (wordKinds keywords) ∷ single rightBracket ∷ []) (drop (i + 1) (items source (rowsOf tokens))))
+        (fits (someOf (wordKinds keywords) ∷ kindPiece rightBracket ∷ []) (drop (i + 1) (items source (rowsOf tokens))))
     unfolding askedAt asked view answerTo questions17 fitsOne wordKinds among or
     list-asked source e = rw s (by-kinds keywords)
       where
         opening : (ps : List Piece)
-            → fits (single leftBracket ∷ ps) (drop i (items source (rowsOf tokens)))
+            → fits (kindPiece leftBracket ∷ ps) (drop i (items source (rowsOf tokens)))
             ≡ and (eqb (kindAt tokens i) leftBracket) (fits ps (drop (i + 1) (items source (rowsOf tokens))))
         opening ps = fits-kinds source tokens i (leftBracket ∷ []) refl ps ∙ rw (among-single leftBracket (kindAt tokens i))
 
         by-kinds : (b : Bool)
             → askedAt (query (pick b opensWords opensNames)) source tokens e (Read i row)
             ≡ and (eqb (kindAt tokens i) leftBracket)
-            (fits (someOf (wordKinds b) ∷ single rightBracket ∷ []) (drop (i + 1) (items source (rowsOf tokens))))
+            (fits (someOf (wordKinds b) ∷ kindPiece rightBracket ∷ []) (drop (i + 1) (items source (rowsOf tokens))))
         by-kinds true = or-false _ ∙ opening _
         by-kinds false = or-false _ ∙ opening _
 
@@ -187,7 +188,7 @@ module _ (tokens : List ℕ) (step : Step) (i row : ℕ) (s : step ≡ Read i ro
     list-opens bracket end words source e =
         let ts = items source (rowsOf tokens) in
         let n = runOf (wordKinds keywords) (drop (i + 1) ts) in
-        let run = fits-run (wordKinds keywords) (single rightBracket ∷ []) ts (i + 1) in
+        let run = fits-run (wordKinds keywords) (kindPiece rightBracket ∷ []) ts (i + 1) in
         let last = fits-last source tokens end (rightBracket ∷ []) refl in
         let kind = among-single rightBracket (kindAt tokens end) in
         rw (list-asked source e, eq-eqb _ _ bracket, run, some-more (i + 1) n, ← words source, last, kind)

@@ -11,25 +11,26 @@ use lib.ListN.{replicate}
 use borrow.Author.Tests.{eqb-true, eq-eqb, lt-ltb, ltb-true, ltb-false, le-leb, leb-true}
 use Rattle.lexer.specs.Tests.{and, or, between, pick, among}
 use Rattle.lexer.specs.internal.Kinds.{ident, lastKind}
-use Rattle.lexer.specs.Table.{tokenRoom, rowsOf, kindAt}
+use Rattle.lexer.specs.Table.{tokenRoom}
+use Rattle.lexer.specs.internal.TokenRows.{rowsOf, kindAt}
 use Rattle.lexer.proofs.Laws.Tests.{and-left, and-right, between-range}
-use Rattle.grammar.specs.Grammars.{Symbol, token, part, Makes, row, rowOf, noRow, says, Production, Names, View, agrees}
+use Rattle.grammar.specs.Grammars.{Symbol, token, derived, Makes, givesRow, rowOf, noRow, givesKind, Production, Names, View, agrees}
 use Rattle.grammar.specs.Rows.{levels}
-use Rattle.grammar.specs.Reading.{deep, Choice, none, one, choice}
-use Rattle.grammar.specs.internal.Classes.{name, word, declaredWord}
+use Rattle.grammar.specs.Reading.{deep, Choice, none, selected, choice}
+use Rattle.grammar.specs.internal.Classes.{name, anyWord, declaredWord}
 use Rattle.grammar.specs.Nurl.{productions}
-use Rattle.grammar.specs.internal.Nurl.{rule}
+use Rattle.grammar.specs.internal.Productions.{ruleOf}
 use Rattle.grammar.specs.Languages.{language17}
 use Rattle.grammar.specs.Sources.{viewOf}
-use Rattle.grammar.specs.Alternatives.{kindOf, kindAlternative, nth}
+use Rattle.grammar.specs.internal.Alternatives.{kindOfClass, kindAlternative, nth}
 use Rattle.grammar.proofs.Laws.Checks.{below, implies}
 use Rattle.grammar.proofs.Laws.CheckLaws.{implies-true, implies-by, below-at}
 use Rattle.grammar.proofs.Laws.Views.{classes}
 use Rattle.grammar.proofs.Laws.Alternatives.{kind-past}
 use Rattle.grammar.proofs.Laws.Groups17.{kindNumber, kind-same}
-use Rattle.parser.specs.Readings.{Gives, Reads}
-use Rattle.parser.specs.Steps.{Tokens, Within, inside, elsewhere, Small, Spans, nextKind, begins, refusedAt, takenBy, taken}
-use Rattle.parser.specs.Steps.{wordKinds, takenWord, opened, closed}
+use Rattle.parser.specs.internal.Readings.{Gives, Reads}
+use Rattle.parser.specs.internal.Steps.{Tokens, Within, inside, elsewhere, Small, Spans, nextKind, beginsPart, refusedAt, takenBy}
+use Rattle.parser.specs.internal.Steps.{takenKind, wordKinds, takenWord, opened, closed}
 use Rattle.parser.specs.declared.Step.{Step}
 use Rattle.parser.specs.declared.Step.the-variants.{Read, Refused}
 use Rattle.parser.proofs.Laws.Gives.{gives-deep, takes}
@@ -41,12 +42,12 @@ use Rattle.parser.proofs.Laws.Views.{kind-inside, class-kind, class-sho
 -- a token of these classes is one of this kind
 unfoldable pub marks : List ℕ → ℕ → Bool
 unfolding below
-marks cs kind = and (ltb 0 kind) (below (λ (c : ℕ). agrees (among cs c) (eqb (kindOf c) kind)) classes)
+marks cs kind = and (ltb 0 kind) (below (λ (c : ℕ). agrees (among cs c) (eqb (kindOfClass c) kind)) classes)
 
 -- a token whose kind passes the test is of these classes
 unfoldable pub opensWith : (ℕ → Bool) → List ℕ → Bool
 unfolding below
-opensWith test cs = below (λ (c : ℕ). implies (test (kindOf c)) (and (among cs c) (ltb 0 (kindOf c)))) classes
+opensWith test cs = below (λ (c : ℕ). implies (test (kindOfClass c)) (and (among cs c) (ltb 0 (kindOfClass c)))) classes
 
 pub agrees-same : (a b : Bool) → agrees a b ≡ true → a ≡ b
 unfolding agrees
@@ -56,7 +57,7 @@ agrees-same false false h = refl
 
 -- the classes of words are those of the kinds of words
 words17 : (keywords : Bool)
-    → below (λ (c : ℕ). agrees (among (pick keywords word declaredWord) c) (among (wordKinds keywords) (kindOf c))) classes ≡ true
+    → below (λ (c : ℕ). agrees (among (pick keywords anyWord declaredWord) c) (among (wordKinds keywords) (kindOfClass c))) classes ≡ true
 unfolding below and or agrees among wordKinds
 words17 true = refl
 words17 false = refl
@@ -97,23 +98,23 @@ pub level-below : {n : ℕ} → 0 < n → n ≡ suc (n - 1)
 level-below some = omega arith
 
 -- what begins something has an alternative
-pub begins-some : (x : ℕ) (tokens : List ℕ) (s : Step) → begins x tokens s ≡ true
+pub begins-some : (x : ℕ) (tokens : List ℕ) (s : Step) → beginsPart x tokens s ≡ true
     → kindAlternative x (nextKind tokens s) ≡ suc (kindAlternative x (nextKind tokens s) - 1)
-unfolding begins
+unfolding beginsPart
 begins-some x tokens s h = let some = ltb-true 0 (kindAlternative x (nextKind tokens s)) h in omega arith
 
-pub begins-none : (x : ℕ) (tokens : List ℕ) (s : Step) → begins x tokens s ≡ false → kindAlternative x (nextKind tokens s) ≡ 0
-unfolding begins
+pub begins-none : (x : ℕ) (tokens : List ℕ) (s : Step) → beginsPart x tokens s ≡ false → kindAlternative x (nextKind tokens s) ≡ 0
+unfolding beginsPart
 begins-none x tokens s h = let few = ltb-false 0 (kindAlternative x (nextKind tokens s)) h in omega arith
 
 -- a token that is taken is one of the table, and allows for two rows
 pub taken-fewer : {more : ℕ} {s : Step} (tokens : List ℕ) (test : ℕ → Bool) → ((j : ℕ) → test j ≡ true → j < tokenRoom tokens)
     → Within tokens (more + 2) s → Within tokens more (takenBy test s)
 unfolding takenBy
-taken-fewer {more} tokens test room (inside {at = i} {row = r} few to) = within-by (test i) (room i)
+taken-fewer {more} tokens test room (inside {at = i} {givesRow = r} few to) = within-by (test i) (room i)
   where
     within-by : (b : Bool) → (b ≡ true → i < tokenRoom tokens) → Within tokens more (pick b (Read (i + 1) r) (Refused 6 i))
-    within-by true here = let some = here refl in inside {at = i + 1} {row = r} (omega arith) (omega arith)
+    within-by true here = let some = here refl in inside {at = i + 1} {givesRow = r} (omega arith) (omega arith)
     within-by false here = elsewhere
 taken-fewer tokens test room elsewhere = elsewhere
 
@@ -126,7 +127,7 @@ pub kind-room : (tokens : List ℕ) (kind : ℕ) → 0 < kind → (j : ℕ) → 
 kind-room tokens kind some j h = kind-inside tokens j kind (eqb-true (kindAt tokens j) kind h) some
 
 -- .. a mark or a name, ..
-pub within-mark : {more : ℕ} {s s' : Step} (tokens : List ℕ) (kind : ℕ) → s' ≡ taken tokens (suc kind) s → Within tokens more s
+pub within-mark : {more : ℕ} {s s' : Step} (tokens : List ℕ) (kind : ℕ) → s' ≡ takenKind tokens (suc kind) s → Within tokens more s
     → Within tokens more s'
 within-mark tokens kind to within =
     rw to (within-taken tokens (λ (j : ℕ). eqb (kindAt tokens j) (suc kind)) (kind-room tokens (suc kind) (omega arith)) within)
@@ -141,30 +142,30 @@ within-word tokens keywords to within =
 pub opened-within : {a : ℕ} {s s' : Step} (x : ℕ) → kindAlternative x 0 ≡ 0 → (tokens : List ℕ)
     → kindAlternative x (nextKind tokens s) ≡ suc a → Within tokens 1 s → s' ≡ opened s → Within tokens 0 s'
 unfolding nextKind opened
-opened-within {a} x ends tokens begins (inside {at = i} {row = r} few to) is =
+opened-within {a} x ends tokens beginsPart (inside {at = i} {givesRow = r} few to) is =
     let room = kind-inside tokens i (kindAt tokens i) refl (pos-of-ne-zero (λ (z : kindAt tokens i ≡ 0).
     let gone : kindAlternative x (kindAt tokens i) ≡ 0 = ap (kindAlternative x) z ∙ ends in absurd (omega arith))) in
-    rw is (inside {at = i + 1} {row = r + 1} (omega arith) (omega arith))
-opened-within x ends tokens begins elsewhere is = rw is elsewhere
+    rw is (inside {at = i + 1} {givesRow = r + 1} (omega arith) (omega arith))
+opened-within x ends tokens beginsPart elsewhere is = rw is elsewhere
 
 -- whether a production that makes a row is chosen
 unfoldable pub rowed : Choice → Bool
 rowed none = false
-rowed (one p) = ltb 0 (levels (p .makes))
+rowed (selected p) = ltb 0 (levels (p .makes))
 
 level-one : (m : Makes) → ltb 0 (levels m) ≡ true → levels m ≡ 1
 unfolding levels
-level-one (row kind) h = refl
+level-one (givesRow kind) h = refl
 level-one rowOf h = refl
-level-one (says kind) h = let z : _≡_ {A = ℕ} 0 1 = cc in absurd (omega arith)
+level-one (givesKind kind) h = let z : _≡_ {A = ℕ} 0 1 = cc in absurd (omega arith)
 level-one noRow h = let z : _≡_ {A = ℕ} 0 1 = cc in absurd (omega arith)
 
 -- .. and no level is left for it
 pub rowed-deep : (g : List Production) (v : View) (e : Names) (fixed : (x i : ℕ) → v .inside x i e ≡ e) (x j : ℕ) (c : Choice)
-    → choice g v e x j ≡ c → rowed c ≡ true → Gives g v e 0 (part x ∷ []) j (deep j)
+    → choice g v e x j ≡ c → rowed c ≡ true → Gives g v e 0 (derived x ∷ []) j (deep j)
 unfolding rowed
 rowed-deep g v e fixed x j none is h = let z : _≡_ {A = ℕ} 0 1 = cc in absurd (omega arith)
-rowed-deep g v e fixed x j (one p) is h = gives-deep g v e fixed x j p [] is (level-one (p .makes) h)
+rowed-deep g v e fixed x j (selected p) is h = gives-deep g v e fixed x j p [] is (level-one (p .makes) h)
 
 -- what a computed test says of the alternative that a kind begins, where it is one of the grammar
 pub alternative-shows : (x : ℕ) (test : ℕ → ℕ → Bool) → below (λ (k : ℕ). test k (kindNumber x k)) classes ≡ true
@@ -196,7 +197,7 @@ few-numbers x most all k =
 -- what is closed, and what is asked for that
 module _ (g : List Production) (v : View) (tokens : List ℕ) (e : Names) (fixed : (x i : ℕ) → v .inside x i e ≡ e) where
   pub closing-with : {n below least more kind : ℕ} {ts ss : List Symbol} {s s' : Step} {t t' : List ℕ} → more ≤ 1 → Tokens tokens
-      → Within tokens 1 s → After g v (tokenRoom tokens) e n below (row kind) least more ts ss s t s' t'
+      → Within tokens 1 s → After g v (tokenRoom tokens) e n below (givesRow kind) least more ts ss s t s' t'
       → (Small s) × ((Small s') × (Spans s s'))
   unfolding levels
   closing-with rows good within a =
@@ -206,23 +207,23 @@ module _ (g : List Production) (v : View) (tokens : List ℕ) (e : Names) (fixed
       )
 
   pub closing : {n below least kind : ℕ} {ts ss : List Symbol} {s s' : Step} {t t' : List ℕ} → Tokens tokens → Within tokens 1 s
-      → After g v (tokenRoom tokens) e n below (row kind) least 0 ts ss s t s' t' → (Small s) × ((Small s') × (Spans s s'))
+      → After g v (tokenRoom tokens) e n below (givesRow kind) least 0 ts ss s t s' t' → (Small s) × ((Small s') × (Spans s s'))
   closing = closing-with (omega arith)
 
   pub closed-by : {n below least kind x : ℕ} {s s' r : Step} {t t' after : List ℕ}
-      → After g v (tokenRoom tokens) e n below (row kind) least 0 (part x ∷ []) [] s t s' t' → 1 ≤ least
-      → r ≡ s' → after ≡ closed kind s s' t' → Reads g v (tokenRoom tokens) e n 1 0 (part x ∷ []) s t r after
+      → After g v (tokenRoom tokens) e n below (givesRow kind) least 0 (derived x ∷ []) [] s t s' t' → 1 ≤ least
+      → r ≡ s' → after ≡ closed kind s s' t' → Reads g v (tokenRoom tokens) e n 1 0 (derived x ∷ []) s t r after
   closed-by a enough answer table =
       rw (answer, table) (closes g v tokens e fixed (wider g v tokens e fixed a enough (omega arith)))
 
   -- one of several operands is read
   pub operand : {n below least y : ℕ} (count done : ℕ) {m : Makes} {ts : List Symbol} {s s' s'' : Step} {t t' t'' : List ℕ} → done < count
-      → After g v (tokenRoom tokens) e n below m least 0 ts (replicate (count - done) (part y)) s t s' t'
-      → Reads g v (tokenRoom tokens) e below 1 0 (part y ∷ []) s' t' s'' t''
-      → After g v (tokenRoom tokens) e n below m least 0 ts (replicate (count - (done + 1)) (part y)) s t s'' t''
+      → After g v (tokenRoom tokens) e n below m least 0 ts (replicate (count - done) (derived y)) s t s' t'
+      → Reads g v (tokenRoom tokens) e below 1 0 (derived y ∷ []) s' t' s'' t''
+      → After g v (tokenRoom tokens) e n below m least 0 ts (replicate (count - (done + 1)) (derived y)) s t s'' t''
   operand {n} {below} {least} {y} count done {m} {ts} {s} {s'} {t = t} {t' = t'} some a d =
       let next : count - done ≡ suc (count - (done + 1)) = omega arith in
-      let first : After g v (tokenRoom tokens) e n below m least 0 ts (part y ∷ replicate (count - (done + 1)) (part y)) s t s' t' =
+      let first : After g v (tokenRoom tokens) e n below m least 0 ts (derived y ∷ replicate (count - (done + 1)) (derived y)) s t s' t' =
       rw next at a in
       wider g v tokens e fixed (went g v tokens e fixed first d) (omega arith) (omega arith)
 
@@ -234,64 +235,64 @@ module _ (source tokens : List ℕ) (good : Tokens tokens) (e : Names) where
   class j = v .class e j
 
   -- a step that has come to a token
-  pub reached : (s : Step) (j k : ℕ) → s ≡ Read j k → kindOf (class j) ≡ nextKind tokens s
+  pub reached : (s : Step) (j k : ℕ) → s ≡ Read j k → kindOfClass (class j) ≡ nextKind tokens s
   unfolding nextKind
   reached s j k is = rw is (class-kind source tokens good e j)
 
   -- what begins there, or does not, ..
-  pub begins-there : (x : ℕ) (s : Step) → begins x tokens s ≡ true → (j k : ℕ) → s ≡ Read j k
-      → kindAlternative x (kindOf (class j)) ≡ suc (kindAlternative x (nextKind tokens s) - 1)
+  pub begins-there : (x : ℕ) (s : Step) → beginsPart x tokens s ≡ true → (j k : ℕ) → s ≡ Read j k
+      → kindAlternative x (kindOfClass (class j)) ≡ suc (kindAlternative x (nextKind tokens s) - 1)
   begins-there x s is j k read = ap (kindAlternative x) (reached s j k read) ∙ begins-some x tokens s is
 
-  pub none-there : (x : ℕ) (s : Step) → begins x tokens s ≡ false → (j k : ℕ) → s ≡ Read j k
-      → kindAlternative x (kindOf (class j)) ≡ 0
+  pub none-there : (x : ℕ) (s : Step) → beginsPart x tokens s ≡ false → (j k : ℕ) → s ≡ Read j k
+      → kindAlternative x (kindOfClass (class j)) ≡ 0
   none-there x s is j k read = ap (kindAlternative x) (reached s j k read) ∙ begins-none x tokens s is
 
   -- .. and which alternative
   pub alternative-is : {a : ℕ} (x : ℕ)
-      → ((j : ℕ) → choice productions v e x j ≡ nth x (kindAlternative x (kindOf (class j))) productions)
+      → ((j : ℕ) → choice productions v e x j ≡ nth x (kindAlternative x (kindOfClass (class j))) productions)
       → (s : Step) → kindAlternative x (nextKind tokens s) ≡ a
-      → (j : ℕ) → kindOf (class j) ≡ nextKind tokens s → choice productions v e x j ≡ nth x a productions
+      → (j : ℕ) → kindOfClass (class j) ≡ nextKind tokens s → choice productions v e x j ≡ nth x a productions
   alternative-is x chosen s is j k = chosen j ∙ ap (λ (n : ℕ). nth x n productions) (ap (kindAlternative x) k ∙ is)
 
   -- no token begins this: it is refused
   pub none-stuck : {n x : ℕ} (s : Step) {t : List ℕ}
-      → ((j : ℕ) → kindOf (class j) ≡ nextKind tokens s → choice productions v e x j ≡ none)
-      → Reads productions v (tokenRoom tokens) e n 1 0 (part x ∷ []) s t (refusedAt 6 s) t
+      → ((j : ℕ) → kindOfClass (class j) ≡ nextKind tokens s → choice productions v e x j ≡ none)
+      → Reads productions v (tokenRoom tokens) e n 1 0 (derived x ∷ []) s t (refusedAt 6 s) t
   none-stuck s chosen =
       stuck-at productions v tokens e (names-fixed source tokens good e) s (λ (j k : ℕ) (is : s ≡ Read j k). chosen j (reached s j k
       is))
 
   -- a row is called for and no level is left: it is too deep
   pub row-deep : {n x : ℕ} (s : Step) {t : List ℕ} (c : Choice) → n ≡ 0 → rowed c ≡ true
-      → ((j : ℕ) → kindOf (class j) ≡ nextKind tokens s → choice productions v e x j ≡ c)
-      → Reads productions v (tokenRoom tokens) e n 1 0 (part x ∷ []) s t (refusedAt 7 s) t
+      → ((j : ℕ) → kindOfClass (class j) ≡ nextKind tokens s → choice productions v e x j ≡ c)
+      → Reads productions v (tokenRoom tokens) e n 1 0 (derived x ∷ []) s t (refusedAt 7 s) t
   row-deep {x = x} s c spent rows chosen =
       let fixed = names-fixed source tokens good e in
       rw spent (deep-at productions v tokens e fixed s (λ (j k : ℕ) (is : s ≡ Read j k).
       rowed-deep productions v e fixed x j c (chosen j (reached s j k is)) rows))
 
   opened-both : (test : ℕ → Bool) (cs : List ℕ) (s : Step) → opensWith test cs ≡ true → test (nextKind tokens s) ≡ true
-      → (j k : ℕ) → s ≡ Read j k → and (among cs (class j)) (ltb 0 (kindOf (class j))) ≡ true
+      → (j k : ℕ) → s ≡ Read j k → and (among cs (class j)) (ltb 0 (kindOfClass (class j))) ≡ true
   unfolding opensWith
   opened-both test cs s opens passes j k is =
-      implies-true (test (kindOf (class j))) _
-      (class-shows source tokens good e (λ (c : ℕ). implies (test (kindOf c)) (and (among cs c) (ltb 0 (kindOf c)))) opens j)
+      implies-true (test (kindOfClass (class j))) _
+      (class-shows source tokens good e (λ (c : ℕ). implies (test (kindOfClass c)) (and (among cs c) (ltb 0 (kindOfClass c)))) opens j)
       (ap test (reached s j k is) ∙ passes)
 
   opened-inside : (test : ℕ → Bool) (cs : List ℕ) (s : Step) → opensWith test cs ≡ true → test (nextKind tokens s) ≡ true
       → (j k : ℕ) → s ≡ Read j k → j < tokenRoom tokens
   opened-inside test cs s opens passes j k is =
       let both = opened-both test cs s opens passes j k is in
-      let some = ltb-true 0 (kindOf (class j)) (and-right (among cs (class j)) _ both) in
-      kind-inside tokens j (kindOf (class j)) (sym (class-kind source tokens good e j)) some
+      let some = ltb-true 0 (kindOfClass (class j)) (and-right (among cs (class j)) _ both) in
+      kind-inside tokens j (kindOfClass (class j)) (sym (class-kind source tokens good e j)) some
 
   -- a production that makes a row is begun with its token
   pub begun-by : {n below x : ℕ} {m : Makes} {cs : List ℕ} {ss : List Symbol} {s s₀ : Step} {t : List ℕ} (test : ℕ → Bool)
       → opensWith test cs ≡ true
-      → ((j : ℕ) → test (kindOf (class j)) ≡ true → choice productions v e x j ≡ one (rule x m (token cs ∷ ss)))
+      → ((j : ℕ) → test (kindOfClass (class j)) ≡ true → choice productions v e x j ≡ selected (ruleOf x m (token cs ∷ ss)))
       → test (nextKind tokens s) ≡ true → Within tokens 1 s → n ≡ suc below → levels m ≡ 1 → s₀ ≡ opened s
-      → After productions v (tokenRoom tokens) e n below m 1 0 (part x ∷ []) ss s t s₀ t
+      → After productions v (tokenRoom tokens) e n below m 1 0 (derived x ∷ []) ss s t s₀ t
   begun-by {cs = cs} {s = s} test opens chosen passes within level makes to =
       rw to (begun productions v tokens e (names-fixed source tokens good e) within level makes
       (λ (i r : ℕ) (is : s ≡ Read i r). chosen i (ap test (reached s i r is) ∙ passes))
@@ -300,36 +301,36 @@ module _ (source tokens : List ℕ) (good : Tokens tokens) (e : Names) where
 
   -- .. which is a mark, ..
   pub begun-mark : {n below x : ℕ} (kind : ℕ) {m : Makes} {ss : List Symbol} {s s₀ : Step} {t : List ℕ} → between 2 lastKind kind ≡ true
-      → ((j : ℕ) → kindOf (class j) ≡ kind → choice productions v e x j ≡ one (rule x m (token (kind ∷ []) ∷ ss)))
+      → ((j : ℕ) → kindOfClass (class j) ≡ kind → choice productions v e x j ≡ selected (ruleOf x m (token (kind ∷ []) ∷ ss)))
       → nextKind tokens s ≡ kind → Within tokens 1 s → n ≡ suc below → levels m ≡ 1 → s₀ ≡ opened s
-      → After productions v (tokenRoom tokens) e n below m 1 0 (part x ∷ []) ss s t s₀ t
-  begun-mark kind is chosen begins =
+      → After productions v (tokenRoom tokens) e n below m 1 0 (derived x ∷ []) ss s t s₀ t
+  begun-mark kind is chosen beginsPart =
       begun-by (λ (k : ℕ). eqb k kind) (mark-opens kind is)
-      (λ (j : ℕ) (h : eqb (kindOf (class j)) kind ≡ true). chosen j (eqb-true _ _ h)) (eq-eqb _ _ begins)
+      (λ (j : ℕ) (h : eqb (kindOfClass (class j)) kind ≡ true). chosen j (eqb-true _ _ h)) (eq-eqb _ _ beginsPart)
 
   -- .. by the number of its alternative
   pub begun-at : {n below x number : ℕ} {m : Makes} {cs : List ℕ} {ss : List Symbol} {s s₀ : Step} {t : List ℕ}
-      → ((j : ℕ) → choice productions v e x j ≡ nth x (kindAlternative x (kindOf (class j))) productions)
-      → nth x number productions ≡ one (rule x m (token cs ∷ ss)) → opensWith (λ (k : ℕ). eqb (kindAlternative x k) number) cs ≡ true
+      → ((j : ℕ) → choice productions v e x j ≡ nth x (kindAlternative x (kindOfClass (class j))) productions)
+      → nth x number productions ≡ selected (ruleOf x m (token cs ∷ ss)) → opensWith (λ (k : ℕ). eqb (kindAlternative x k) number) cs ≡ true
       → kindAlternative x (nextKind tokens s) ≡ number → Within tokens 1 s → n ≡ suc below → levels m ≡ 1 → s₀ ≡ opened s
-      → After productions v (tokenRoom tokens) e n below m 1 0 (part x ∷ []) ss s t s₀ t
-  begun-at {x = x} {number = number} chosen is opens begins within level makes to =
+      → After productions v (tokenRoom tokens) e n below m 1 0 (derived x ∷ []) ss s t s₀ t
+  begun-at {x = x} {number = number} chosen is opens beginsPart within level makes to =
       begun-by (λ (k : ℕ). eqb (kindAlternative x k) number) opens
-      (λ (j : ℕ) (h : eqb (kindAlternative x (kindOf (class j))) number ≡ true).
+      (λ (j : ℕ) (h : eqb (kindAlternative x (kindOfClass (class j))) number ≡ true).
       chosen j ∙ ap (λ (n : ℕ). nth x n productions) (eqb-true _ _ h) ∙ is)
-      (eq-eqb _ _ begins) within level makes to
+      (eq-eqb _ _ beginsPart) within level makes to
 
   -- the classes of a kind
-  pub class-marks : (kind : ℕ) (cs : List ℕ) → marks cs kind ≡ true → (j : ℕ) → among cs (class j) ≡ eqb (kindOf (class j)) kind
+  pub class-marks : (kind : ℕ) (cs : List ℕ) → marks cs kind ≡ true → (j : ℕ) → among cs (class j) ≡ eqb (kindOfClass (class j)) kind
   unfolding marks
   class-marks kind cs is j =
-      agrees-same _ _ (class-shows source tokens good e (λ (c : ℕ). agrees (among cs c) (eqb (kindOf c) kind))
+      agrees-same _ _ (class-shows source tokens good e (λ (c : ℕ). agrees (among cs c) (eqb (kindOfClass c) kind))
       (and-right (ltb 0 kind) _ is) j)
 
   -- a token of a kind is taken
   pub took-kind : {n below least more : ℕ} (kind : ℕ) {m : Makes} {cs : List ℕ} {ts ss : List Symbol} {s s' s'' : Step} {t t' : List ℕ}
       → After productions v (tokenRoom tokens) e n below m least more ts (token cs ∷ ss) s t s' t' → marks cs kind ≡ true
-      → s'' ≡ taken tokens kind s' → After productions v (tokenRoom tokens) e n below m (least + 1) more ts ss s t s'' t'
+      → s'' ≡ takenKind tokens kind s' → After productions v (tokenRoom tokens) e n below m (least + 1) more ts ss s t s'' t'
   unfolding marks
   took-kind kind {cs = cs} a is to =
       rw to (took productions v tokens e (names-fixed source tokens good e) (λ (j : ℕ). eqb (kindAt tokens j) kind) a
@@ -340,31 +341,31 @@ module _ (source tokens : List ℕ) (good : Tokens tokens) (e : Names) where
   pub took-mark : {n below least more : ℕ} (kind : ℕ) {m : Makes} {ts ss : List Symbol} {s s' s'' : Step} {t t' : List ℕ}
       → After productions v (tokenRoom tokens) e n below m least more ts (token (kind ∷ []) ∷ ss) s t s' t'
       → between 2 lastKind kind ≡ true
-      → s'' ≡ taken tokens kind s' → After productions v (tokenRoom tokens) e n below m (least + 1) more ts ss s t s'' t'
+      → s'' ≡ takenKind tokens kind s' → After productions v (tokenRoom tokens) e n below m (least + 1) more ts ss s t s'' t'
   took-mark kind a is = took-kind kind a (mark-marks kind is)
 
   -- .. a name
   pub took-name : {n below least more : ℕ} {m : Makes} {ts ss : List Symbol} {s s' s'' : Step} {t t' : List ℕ}
       → After productions v (tokenRoom tokens) e n below m least more ts (token name ∷ ss) s t s' t'
-      → s'' ≡ taken tokens ident s' → After productions v (tokenRoom tokens) e n below m (least + 1) more ts ss s t s'' t'
+      → s'' ≡ takenKind tokens ident s' → After productions v (tokenRoom tokens) e n below m (least + 1) more ts ss s t s'' t'
   took-name a = took-kind ident a name-marks
 
   -- .. or a word
   pub took-word : {n below least more : ℕ} (keywords : Bool) {m : Makes} {ts ss : List Symbol} {s s' s'' : Step} {t t' : List ℕ}
-      → After productions v (tokenRoom tokens) e n below m least more ts (token (pick keywords word declaredWord) ∷ ss) s t s' t'
+      → After productions v (tokenRoom tokens) e n below m least more ts (token (pick keywords anyWord declaredWord) ∷ ss) s t s' t'
       → s'' ≡ takenWord tokens keywords s' → After productions v (tokenRoom tokens) e n below m (least + 1) more ts ss s t s'' t'
   took-word keywords a to =
       rw to (took productions v tokens e (names-fixed source tokens good e) (λ (j : ℕ). among (wordKinds keywords) (kindAt tokens j)) a
       (λ (j : ℕ).
       agrees-same _ _ (class-shows source tokens good e
-      (λ (c : ℕ). agrees (among (pick keywords word declaredWord) c) (among (wordKinds keywords) (kindOf c))) (words17 keywords) j)
+      (λ (c : ℕ). agrees (among (pick keywords anyWord declaredWord) c) (among (wordKinds keywords) (kindOfClass c))) (words17 keywords) j)
       ∙ ap (among (wordKinds keywords)) (class-kind source tokens good e j))
       (word-inside keywords tokens))
 
   -- a nonterminal that makes no row is looked through ..
   pub looked-by : {n below least more y : ℕ} {m : Makes} (q : Production) {ts ss : List Symbol} {s s' : Step} {t t' : List ℕ}
-      → After productions v (tokenRoom tokens) e n below m least more ts (part y ∷ ss) s t s' t'
-      → ((j : ℕ) → kindOf (class j) ≡ nextKind tokens s' → choice productions v e y j ≡ one q) → q .makes ≡ noRow
+      → After productions v (tokenRoom tokens) e n below m least more ts (derived y ∷ ss) s t s' t'
+      → ((j : ℕ) → kindOfClass (class j) ≡ nextKind tokens s' → choice productions v e y j ≡ selected q) → q .makes ≡ noRow
       → After productions v (tokenRoom tokens) e n below m least more ts (q .right ++ ss) s t s' t'
   looked-by q {s' = s'} a chosen rowless =
       looked productions v tokens e (names-fixed source tokens good e) a
@@ -372,22 +373,22 @@ module _ (source tokens : List ℕ) (good : Tokens tokens) (e : Names) where
 
   -- .. or says the kind of the row
   pub spoken-by : {n below least more y kind : ℕ} (q : Production) {ts : List Symbol} {s s' : Step} {t t' : List ℕ}
-      → After productions v (tokenRoom tokens) e n below rowOf least more ts (part y ∷ []) s t s' t'
-      → ((j : ℕ) → kindOf (class j) ≡ nextKind tokens s' → choice productions v e y j ≡ one q) → q .makes ≡ says kind
-      → After productions v (tokenRoom tokens) e n below (row kind) least more ts (q .right) s t s' t'
+      → After productions v (tokenRoom tokens) e n below rowOf least more ts (derived y ∷ []) s t s' t'
+      → ((j : ℕ) → kindOfClass (class j) ≡ nextKind tokens s' → choice productions v e y j ≡ selected q) → q .makes ≡ givesKind kind
+      → After productions v (tokenRoom tokens) e n below (givesRow kind) least more ts (q .right) s t s' t'
   spoken-by q {s' = s'} a chosen speaks =
       spoken productions v tokens e (names-fixed source tokens good e) a
       (λ (j k : ℕ) (is : s' ≡ Read j k). takes (chosen j (reached s' j k is))) speaks
 
   -- an alternative that is another nonterminal is what that is
   pub passes-on : {n y number : ℕ} (x : ℕ) {s s' : Step} {t t' : List ℕ}
-      → ((j : ℕ) → choice productions v e x j ≡ nth x (kindAlternative x (kindOf (class j))) productions)
-      → nth x number productions ≡ one (rule x noRow (part y ∷ []))
+      → ((j : ℕ) → choice productions v e x j ≡ nth x (kindAlternative x (kindOfClass (class j))) productions)
+      → nth x number productions ≡ selected (ruleOf x noRow (derived y ∷ []))
       → kindAlternative x (nextKind tokens s) ≡ number → Within tokens 1 s
-      → Reads productions v (tokenRoom tokens) e n 1 0 (part y ∷ []) s t s' t'
-      → Reads productions v (tokenRoom tokens) e n 1 0 (part x ∷ []) s t s' t'
-  passes-on {y = y} x {s = s} chosen is begins within d =
+      → Reads productions v (tokenRoom tokens) e n 1 0 (derived y ∷ []) s t s' t'
+      → Reads productions v (tokenRoom tokens) e n 1 0 (derived x ∷ []) s t s' t'
+  passes-on {y = y} x {s = s} chosen is beginsPart within d =
       let fixed = names-fixed source tokens good e in
-      let a = looked-by (rule x noRow (part y ∷ [])) (start productions v tokens e fixed within)
-      (λ j k. alternative-is x chosen s begins j k ∙ is) refl in
+      let a = looked-by (ruleOf x noRow (derived y ∷ [])) (start productions v tokens e fixed within)
+      (λ j k. alternative-is x chosen s beginsPart j k ∙ is) refl in
       done productions v tokens e fixed (went productions v tokens e fixed a d)

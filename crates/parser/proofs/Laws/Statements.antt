@@ -8,20 +8,22 @@ use lib.Dec.{eqb, leb, ltb}
 use borrow.Author.Tests.{eqb-true}
 use Rattle.lexer.specs.Tests.{and, between}
 use Rattle.lexer.specs.internal.Kinds.{ident, dot, tilde, leftBrace, rightBrace}
-use Rattle.lexer.specs.Table.{tokenRoom, rowsOf, kindAt}
+use Rattle.lexer.specs.Table.{tokenRoom}
+use Rattle.lexer.specs.internal.TokenRows.{rowsOf, kindAt}
 use Rattle.lexer.proofs.Laws.Tests.{and-left}
-use Rattle.grammar.specs.Grammars.{query, Symbol, token, part, unless, Makes, row, rowOf, says, noRow, Names, View, asked, met}
+use Rattle.grammar.specs.Grammars.{query, Symbol, token, derived, unless, Makes, givesRow, rowOf, givesKind, noRow, Names, View, asked}
+use Rattle.grammar.specs.Grammars.{met}
 use Rattle.grammar.specs.Rows.{levels}
-use Rattle.grammar.specs.Reading.{one, choice}
-use Rattle.grammar.specs.internal.RowKinds.{blockRow, letRow, setNameRow, setElementRow, deferRow, whileRow, foreachRow, complementRow}
+use Rattle.grammar.specs.Reading.{selected, choice}
+use Rattle.tree.specs.internal.RowKinds.{blockRow, letRow, setNameRow, setElementRow, deferRow, whileRow, foreachRow, complementRow}
 use Rattle.grammar.specs.internal.Nonterminals.{block, statements, statement, binding, assignment, tildeStatement, loopOrComplement}
 use Rattle.grammar.specs.internal.Nonterminals.{expression, type}
 use Rattle.grammar.specs.internal.Classes.{name}
 use Rattle.grammar.specs.Nurl.{productions, plainName}
-use Rattle.grammar.specs.internal.Nurl.{rule, aTilde, aBrace, twoNames, one as only}
+use Rattle.grammar.specs.internal.Productions.{ruleOf, aTilde, aBrace, twoNames, kindToken as only}
 use Rattle.grammar.specs.Languages.{language17}
 use Rattle.grammar.specs.Sources.{viewOf}
-use Rattle.grammar.specs.Alternatives.{kindOf, kindAlternative, nth}
+use Rattle.grammar.specs.internal.Alternatives.{kindOfClass, kindAlternative, nth}
 use Rattle.grammar.proofs.Laws.Checks.{below, implies}
 use Rattle.grammar.proofs.Laws.Views.{classes}
 use Rattle.grammar.proofs.Laws.Groups17.{kindNumber, kind-same}
@@ -31,16 +33,17 @@ use Rattle.grammar.proofs.Laws.Alternatives17.{statement-tilde, block-one, bloc
 use Rattle.grammar.proofs.Laws.Alternatives17.{mutable-none, binding-named, binding-typed, binding-none, assignment-setName}
 use Rattle.grammar.proofs.Laws.Alternatives17.{assignment-setElement, assignment-none, tildeStatement-foreach, tildeStatement-other}
 use Rattle.grammar.proofs.Laws.Alternatives17.{tildeStatement-none, loopOrComplement-some, loopOrComplement-none}
-use Rattle.parser.specs.Readings.{Reads}
-use Rattle.parser.specs.Steps.{Tokens, Within, nextKind, begins, kindsAt, askedAt, refusedAt, taken, takenIf, opened}
+use Rattle.parser.specs.internal.Readings.{Reads}
+use Rattle.parser.specs.internal.Steps.{Tokens, Within, nextKind, beginsPart, kindsAt, askedAt, refusedAt, takenKind, takenIf}
+use Rattle.parser.specs.internal.Steps.{opened}
 use Rattle.parser.specs.declared.Step.{Step}
 use Rattle.parser.specs.declared.Step.the-variants.{Read}
 use Rattle.parser.proofs.Laws.After.{After, start, went, looked, spoken, held, done, list-more, list-done}
 use Rattle.parser.proofs.Laws.Views.{class-low, class-kind, names-fixed}
 use Rattle.parser.proofs.Laws.Gives.{barred-token, barred-part, barred-condition, Takes, takes, vain}
-use Rattle.parser.proofs.Laws.Readers.{reached, begun-mark, begun-at, rowed, few-numbers, none-stuck, row-deep}
-use Rattle.parser.proofs.Laws.Readers.{class-marks, mark-marks, name-marks, took-mark, took-name, looked-by, spoken-by}
-use Rattle.parser.proofs.Laws.Readers.{begins-there, none-there, alternative-is, some-rowed}
+use Rattle.parser.proofs.Laws.Readers.{reached, begun-mark, begun-at, rowed, few-numbers, none-stuck, row-deep, class-marks}
+use Rattle.parser.proofs.Laws.Readers.{mark-marks, name-marks, took-mark, took-name, looked-by, spoken-by, begins-there}
+use Rattle.parser.proofs.Laws.Readers.{none-there, alternative-is, some-rowed}
 use Rattle.parser.proofs.Laws.Questions.{two-names, plain-class}
 use Rattle.parser.proofs.Laws.Options.{took-if, mark-met}
 use Rattle.parser.proofs.Laws.Steps.{asked-here, met-here}
@@ -73,16 +76,16 @@ module _ (source tokens : List ℕ) (good : Tokens tokens) (e : Names) where
   v = viewOf language17 source (rowsOf tokens)
 
   abbrev Under : ℕ → ℕ → ℕ → Makes → ℕ → List Symbol → Step → List ℕ → Step → List ℕ → Type 0
-  Under x n below m least ss = After productions v (tokenRoom tokens) e n below m least 0 (part x ∷ []) ss
+  Under x n below m least ss = After productions v (tokenRoom tokens) e n below m least 0 (derived x ∷ []) ss
 
   abbrev Part : ℕ → ℕ → ℕ → Step → List ℕ → Step → List ℕ → Type 0
-  Part n least x = Reads productions v (tokenRoom tokens) e n least 0 (part x ∷ [])
+  Part n least x = Reads productions v (tokenRoom tokens) e n least 0 (derived x ∷ [])
 
   -- `{` statement* `}`
   pub block-whole : {n below : ℕ} {s s₀ s₁ s₂ : Step} {t t₁ : List ℕ} → eqb (nextKind tokens s) leftBrace ≡ true
       → Within tokens 1 s → n ≡ suc below → s₀ ≡ opened s
-      → Part below 0 statements s₀ t s₁ t₁ → s₂ ≡ taken tokens rightBrace s₁
-      → After productions v (tokenRoom tokens) e n below (row blockRow) 2 0 (part block ∷ []) [] s t s₂ t₁
+      → Part below 0 statements s₀ t s₁ t₁ → s₂ ≡ takenKind tokens rightBrace s₁
+      → After productions v (tokenRoom tokens) e n below (givesRow blockRow) 2 0 (derived block ∷ []) [] s t s₂ t₁
   unfolding levels between and
   block-whole is within level to₀ d₁ to₂ =
       let a₀ = begun-mark source tokens good e leftBrace refl (λ j. block-one v e j (class-low source tokens good e j))
@@ -101,30 +104,30 @@ module _ (source tokens : List ℕ) (good : Tokens tokens) (e : Names) where
       → Part n 1 block s t (refusedAt 7 s) t
   unfolding rowed levels
   block-deep s is spent =
-      row-deep source tokens good e s (one (rule block (row blockRow) (only leftBrace ∷ part statements ∷ only rightBrace ∷ [])))
+      row-deep source tokens good e s (selected (ruleOf block (givesRow blockRow) (only leftBrace ∷ derived statements ∷ only rightBrace ∷ [])))
       spent refl
       (λ j k. block-one v e j (class-low source tokens good e j) (k ∙ eqb-true (nextKind tokens s) leftBrace is))
 
   -- as many statements as there are
   pub statements-go : {n : ℕ} {s s' s'' : Step} {t t' t'' : List ℕ}
-      → After productions v (tokenRoom tokens) e n n noRow 0 0 (part statements ∷ []) (part statements ∷ []) s t s' t'
-      → begins statement tokens s' ≡ true
+      → After productions v (tokenRoom tokens) e n n noRow 0 0 (derived statements ∷ []) (derived statements ∷ []) s t s' t'
+      → beginsPart statement tokens s' ≡ true
       → Part n 1 statement s' t' s'' t''
-      → After productions v (tokenRoom tokens) e n n noRow 0 0 (part statements ∷ []) (part statements ∷ []) s t s'' t''
+      → After productions v (tokenRoom tokens) e n n noRow 0 0 (derived statements ∷ []) (derived statements ∷ []) s t s'' t''
   statements-go {s' = s'} a is =
       list-more productions v tokens e (names-fixed source tokens good e) a (λ (j k : ℕ) (read : s' ≡ Read j k).
       statements-more v e j (class-low source tokens good e j) (begins-there source tokens good e statement s' is j k read))
 
   pub statements-end : {n : ℕ} {s s' : Step} {t t' : List ℕ}
-      → After productions v (tokenRoom tokens) e n n noRow 0 0 (part statements ∷ []) (part statements ∷ []) s t s' t'
-      → begins statement tokens s' ≡ false → Part n 0 statements s t s' t'
+      → After productions v (tokenRoom tokens) e n n noRow 0 0 (derived statements ∷ []) (derived statements ∷ []) s t s' t'
+      → beginsPart statement tokens s' ≡ false → Part n 0 statements s t s' t'
   statements-end {s' = s'} a is =
       let fixed = names-fixed source tokens good e in
       done productions v tokens e fixed (list-done productions v tokens e fixed a (λ (j k : ℕ) (read : s' ≡ Read j k).
       statements-done v e j (class-low source tokens good e j) (none-there source tokens good e statement s' is j k read)))
 
   statement-choice : (j : ℕ)
-      → choice productions v e statement j ≡ nth statement (kindAlternative statement (kindOf (v .class e j))) productions
+      → choice productions v e statement j ≡ nth statement (kindAlternative statement (kindOfClass (v .class e j))) productions
   statement-choice j = statement-at v e j (class-low source tokens good e j)
 
   -- a token that begins no statement is refused
@@ -141,11 +144,11 @@ module _ (source tokens : List ℕ) (good : Tokens tokens) (e : Names) where
       (some-rowed statement 1 statement-rows (nextKind tokens s) some)
       (alternative-is source tokens good e statement statement-choice s refl)
 
-  no-tilde : (j : ℕ) → kindAlternative statement (kindOf (v .class e j)) ≡ 1 → (b : Bool) → eqb (kindOf (v .class e j)) tilde ≡ b
+  no-tilde : (j : ℕ) → kindAlternative statement (kindOfClass (v .class e j)) ≡ 1 → (b : Bool) → eqb (kindOfClass (v .class e j)) tilde ≡ b
       → met v e j false aTilde ≡ true
   unfolding between and
   no-tilde j is true h =
-      let other = ap (kindAlternative statement) (eqb-true (kindOf (v .class e j)) tilde h) ∙ tilde-statement in
+      let other = ap (kindAlternative statement) (eqb-true (kindOfClass (v .class e j)) tilde h) ∙ tilde-statement in
       absurd (omega (arith, other, is))
   no-tilde j is false h = mark-met source tokens good e tilde false j refl h
 
@@ -153,19 +156,19 @@ module _ (source tokens : List ℕ) (good : Tokens tokens) (e : Names) where
   pub statement-expression : {n : ℕ} {s s' : Step} {t t' : List ℕ} → kindAlternative statement (nextKind tokens s) ≡ 1
       → Within tokens 1 s → Part n 1 expression s t s' t'
       → Part n 1 statement s t s' t'
-  statement-expression {s = s} begins within d =
+  statement-expression {s = s} beginsPart within d =
       let fixed = names-fixed source tokens good e in
-      let a = looked-by source tokens good e (rule statement noRow (unless aTilde ∷ part expression ∷ []))
+      let a = looked-by source tokens good e (ruleOf statement noRow (unless aTilde ∷ derived expression ∷ []))
       (start productions v tokens e fixed within)
-      (λ j k. alternative-is source tokens good e statement statement-choice s begins j k ∙ alternatives.statement-expression) refl in
+      (λ j k. alternative-is source tokens good e statement statement-choice s beginsPart j k ∙ alternatives.statement-expression) refl in
       let b = held productions v tokens e fixed a (λ (j k : ℕ) (is : s ≡ Read j k).
-      no-tilde j (ap (kindAlternative statement) (reached source tokens good e s j k is) ∙ begins)
-      (eqb (kindOf (v .class e j)) tilde) refl) in
+      no-tilde j (ap (kindAlternative statement) (reached source tokens good e s j k is) ∙ beginsPart)
+      (eqb (kindOfClass (v .class e j)) tilde) refl) in
       done productions v tokens e fixed (went productions v tokens e fixed b d)
 
   -- an alternative that makes a row is begun with its token
   statement-begun : {n below : ℕ} (number : ℕ) {m : Makes} {cs : List ℕ} {ss : List Symbol} {s s₀ : Step} {t : List ℕ}
-      → nth statement number productions ≡ one (rule statement m (token cs ∷ ss)) → Begins statement number cs
+      → nth statement number productions ≡ selected (ruleOf statement m (token cs ∷ ss)) → Begins statement number cs
       → kindAlternative statement (nextKind tokens s) ≡ number → Within tokens 1 s → n ≡ suc below → levels m ≡ 1
       → s₀ ≡ opened s → Under statement n below m 1 ss s t s₀ t
   statement-begun number is opens = begun-at source tokens good e statement-choice is opens
@@ -173,38 +176,38 @@ module _ (source tokens : List ℕ) (good : Tokens tokens) (e : Names) where
   -- `:` and `~` where there is one
   let-begun : {n below : ℕ} {s s₀ s₁ : Step} {t : List ℕ} → kindAlternative statement (nextKind tokens s) ≡ 2
       → Within tokens 1 s → n ≡ suc below → s₀ ≡ opened s → s₁ ≡ takenIf tokens tilde s₀
-      → Under statement n below (row letRow) 1 (part binding ∷ []) s t s₁ t
+      → Under statement n below (givesRow letRow) 1 (derived binding ∷ []) s t s₁ t
   unfolding levels between and
-  let-begun begins within level to₀ to₁ =
+  let-begun beginsPart within level to₀ to₁ =
       took-if source tokens good e tilde (mark-marks tilde refl)
       (λ (j : ℕ). mutable-some v e j (class-low source tokens good e j))
       (λ (j : ℕ). mutable-none v e j (class-low source tokens good e j))
-      (statement-begun 2 statement-let statement-let-begins begins within level refl to₀) to₁
+      (statement-begun 2 statement-let statement-let-begins beginsPart within level refl to₀) to₁
 
   -- `:` `~`? IDENT expression
   pub let-plain : {n below : ℕ} {s s₀ s₁ s₂ s₃ : Step} {t t₃ : List ℕ} → kindAlternative statement (nextKind tokens s) ≡ 2
       → Within tokens 1 s → n ≡ suc below → s₀ ≡ opened s → s₁ ≡ takenIf tokens tilde s₀
-      → askedAt plainName source tokens e s₁ ≡ true → s₂ ≡ taken tokens ident s₁
+      → askedAt plainName source tokens e s₁ ≡ true → s₂ ≡ takenKind tokens ident s₁
       → Part below 1 expression s₂ t s₃ t₃
-      → Under statement n below (row letRow) 3 [] s t s₃ t₃
-  let-plain {s₁ = s₁} begins within level to₀ to₁ is to₂ d₃ =
+      → Under statement n below (givesRow letRow) 3 [] s t s₃ t₃
+  let-plain {s₁ = s₁} beginsPart within level to₀ to₁ is to₂ d₃ =
       let fixed = names-fixed source tokens good e in
-      let a = looked productions v tokens e fixed (let-begun begins within level to₀ to₁)
+      let a = looked productions v tokens e fixed (let-begun beginsPart within level to₀ to₁)
       (λ (j k : ℕ) (at : s₁ ≡ Read j k).
       takes (binding-named v e j (class-low source tokens good e j) (plain-class source tokens e true s₁ is j k at))) refl in
       let b = held productions v tokens e fixed a (met-here source tokens e plainName s₁ true is) in
       went productions v tokens e fixed (took-name source tokens good e b to₂) d₃
 
   typed-takes : (s : Step) → askedAt plainName source tokens e s ≡ false → (j k : ℕ) → s ≡ Read j k
-      → Takes productions v e binding (rule binding noRow (unless plainName ∷ part type ∷ token name ∷ part expression ∷ [])) j
+      → Takes productions v e binding (ruleOf binding noRow (unless plainName ∷ derived type ∷ token name ∷ derived expression ∷ [])) j
   unfolding nth
-  typed-takes s not j k at = by (kindAlternative type (kindOf (v .class e j))) refl
+  typed-takes s not j k at = by (kindAlternative type (kindOfClass (v .class e j))) refl
     where
       low : v .class e j < classes
       low = class-low source tokens good e j
 
-      by : (n : ℕ) → kindAlternative type (kindOf (v .class e j)) ≡ n
-          → Takes productions v e binding (rule binding noRow (unless plainName ∷ part type ∷ token name ∷ part expression ∷ [])) j
+      by : (n : ℕ) → kindAlternative type (kindOfClass (v .class e j)) ≡ n
+          → Takes productions v e binding (ruleOf binding noRow (unless plainName ∷ derived type ∷ token name ∷ derived expression ∷ [])) j
       by zero h =
           vain (binding-none v e j low (plain-class source tokens e false s not j k at) h)
           (barred-condition (barred-part (type-none source tokens good e j h)))
@@ -214,43 +217,43 @@ module _ (source tokens : List ℕ) (good : Tokens tokens) (e : Names) where
   pub let-typed : {n below : ℕ} {s s₀ s₁ s₂ s₃ s₄ : Step} {t t₂ t₄ : List ℕ} → kindAlternative statement (nextKind tokens s) ≡ 2
       → Within tokens 1 s → n ≡ suc below → s₀ ≡ opened s → s₁ ≡ takenIf tokens tilde s₀
       → askedAt plainName source tokens e s₁ ≡ false
-      → Part below 1 type s₁ t s₂ t₂ → s₃ ≡ taken tokens ident s₂
+      → Part below 1 type s₁ t s₂ t₂ → s₃ ≡ takenKind tokens ident s₂
       → Part below 1 expression s₃ t₂ s₄ t₄
-      → Under statement n below (row letRow) 4 [] s t s₄ t₄
-  let-typed {s₁ = s₁} begins within level to₀ to₁ not d₂ to₃ d₄ =
+      → Under statement n below (givesRow letRow) 4 [] s t s₄ t₄
+  let-typed {s₁ = s₁} beginsPart within level to₀ to₁ not d₂ to₃ d₄ =
       let fixed = names-fixed source tokens good e in
-      let a = looked productions v tokens e fixed (let-begun begins within level to₀ to₁) (typed-takes s₁ not) refl in
+      let a = looked productions v tokens e fixed (let-begun beginsPart within level to₀ to₁) (typed-takes s₁ not) refl in
       let b = held productions v tokens e fixed a (met-here source tokens e plainName s₁ false not) in
       let c = took-name source tokens good e (went productions v tokens e fixed b d₂) to₃ in
       went productions v tokens e fixed c d₄
 
   -- `=` `.` expression expression expression
   pub set-element : {n below : ℕ} {s s₀ s₁ s₂ s₃ s₄ : Step} {t t₂ t₃ t₄ : List ℕ} → kindAlternative statement (nextKind tokens s) ≡ 3
-      → Within tokens 1 s → n ≡ suc below → s₀ ≡ opened s → eqb (nextKind tokens s₀) dot ≡ true → s₁ ≡ taken tokens dot s₀
+      → Within tokens 1 s → n ≡ suc below → s₀ ≡ opened s → eqb (nextKind tokens s₀) dot ≡ true → s₁ ≡ takenKind tokens dot s₀
       → Part below 1 expression s₁ t s₂ t₂
       → Part below 1 expression s₂ t₂ s₃ t₃
       → Part below 1 expression s₃ t₃ s₄ t₄
-      → Under statement n below (row setElementRow) 5 [] s t s₄ t₄
+      → Under statement n below (givesRow setElementRow) 5 [] s t s₄ t₄
   unfolding levels between and
-  set-element {s₀ = s₀} begins within level to₀ is to₁ d₂ d₃ d₄ =
+  set-element {s₀ = s₀} beginsPart within level to₀ is to₁ d₂ d₃ d₄ =
       let fixed = names-fixed source tokens good e in
-      let a₀ = statement-begun 3 statement-assignment statement-assignment-begins begins within level refl to₀ in
+      let a₀ = statement-begun 3 statement-assignment statement-assignment-begins beginsPart within level refl to₀ in
       let said = spoken-by source tokens good e
-      (rule assignment (says setElementRow) (only dot ∷ part expression ∷ part expression ∷ part expression ∷ [])) a₀
+      (ruleOf assignment (givesKind setElementRow) (only dot ∷ derived expression ∷ derived expression ∷ derived expression ∷ [])) a₀
       (λ j k. assignment-setElement v e j (class-low source tokens good e j) (k ∙ eqb-true (nextKind tokens s₀) dot is)) refl in
       let a₁ = took-mark source tokens good e dot said refl to₁ in
       let a₃ = went productions v tokens e fixed (went productions v tokens e fixed a₁ d₂) d₃ in
       went productions v tokens e fixed a₃ d₄
 
-  name-takes : (s : Step) → eqb (nextKind tokens s) dot ≡ false → (j : ℕ) → kindOf (v .class e j) ≡ nextKind tokens s
-      → Takes productions v e assignment (rule assignment (says setNameRow) (token name ∷ part expression ∷ [])) j
-  name-takes s not j k = by (eqb (kindOf (v .class e j)) ident) refl
+  name-takes : (s : Step) → eqb (nextKind tokens s) dot ≡ false → (j : ℕ) → kindOfClass (v .class e j) ≡ nextKind tokens s
+      → Takes productions v e assignment (ruleOf assignment (givesKind setNameRow) (token name ∷ derived expression ∷ [])) j
+  name-takes s not j k = by (eqb (kindOfClass (v .class e j)) ident) refl
     where
       low : v .class e j < classes
       low = class-low source tokens good e j
 
-      by : (b : Bool) → eqb (kindOf (v .class e j)) ident ≡ b
-          → Takes productions v e assignment (rule assignment (says setNameRow) (token name ∷ part expression ∷ [])) j
+      by : (b : Bool) → eqb (kindOfClass (v .class e j)) ident ≡ b
+          → Takes productions v e assignment (ruleOf assignment (givesKind setNameRow) (token name ∷ derived expression ∷ [])) j
       by true h = takes (assignment-setName v e j low (eqb-true _ _ h))
       by false h =
           vain (assignment-none v e j low h (ap (λ (n : ℕ). eqb n dot) k ∙ not))
@@ -258,13 +261,13 @@ module _ (source tokens : List ℕ) (good : Tokens tokens) (e : Names) where
 
   -- `=` IDENT expression
   pub set-name : {n below : ℕ} {s s₀ s₁ s₂ : Step} {t t₂ : List ℕ} → kindAlternative statement (nextKind tokens s) ≡ 3
-      → Within tokens 1 s → n ≡ suc below → s₀ ≡ opened s → eqb (nextKind tokens s₀) dot ≡ false → s₁ ≡ taken tokens ident s₀
+      → Within tokens 1 s → n ≡ suc below → s₀ ≡ opened s → eqb (nextKind tokens s₀) dot ≡ false → s₁ ≡ takenKind tokens ident s₀
       → Part below 1 expression s₁ t s₂ t₂
-      → Under statement n below (row setNameRow) 3 [] s t s₂ t₂
+      → Under statement n below (givesRow setNameRow) 3 [] s t s₂ t₂
   unfolding levels
-  set-name {s₀ = s₀} begins within level to₀ not to₁ d₂ =
+  set-name {s₀ = s₀} beginsPart within level to₀ not to₁ d₂ =
       let fixed = names-fixed source tokens good e in
-      let a₀ = statement-begun 3 statement-assignment statement-assignment-begins begins within level refl to₀ in
+      let a₀ = statement-begun 3 statement-assignment statement-assignment-begins beginsPart within level refl to₀ in
       let said = spoken productions v tokens e fixed a₀
       (λ (j k : ℕ) (is : s₀ ≡ Read j k). name-takes s₀ not j (reached source tokens good e s₀ j k is)) refl in
       went productions v tokens e fixed (took-name source tokens good e said to₁) d₂
@@ -273,14 +276,14 @@ module _ (source tokens : List ℕ) (good : Tokens tokens) (e : Names) where
   pub defer-block : {n below : ℕ} {s s₀ s₁ : Step} {t t₁ : List ℕ} → kindAlternative statement (nextKind tokens s) ≡ 4
       → Within tokens 1 s → n ≡ suc below → s₀ ≡ opened s
       → Part below 1 block s₀ t s₁ t₁
-      → Under statement n below (row deferRow) 2 [] s t s₁ t₁
+      → Under statement n below (givesRow deferRow) 2 [] s t s₁ t₁
   unfolding levels
-  defer-block begins within level to₀ d₁ =
+  defer-block beginsPart within level to₀ d₁ =
       went productions v tokens e (names-fixed source tokens good e)
-      (statement-begun 4 statement-defer statement-defer-begins begins within level refl to₀) d₁
+      (statement-begun 4 statement-defer statement-defer-begins beginsPart within level refl to₀) d₁
 
   -- of two names the next token is one
-  two-first : (s : Step) → askedAt (query twoNames) source tokens e s ≡ true → (j k : ℕ) → s ≡ Read j k → kindOf (v .class e j) ≡ ident
+  two-first : (s : Step) → askedAt (query twoNames) source tokens e s ≡ true → (j k : ℕ) → s ≡ Read j k → kindOfClass (v .class e j) ≡ ident
   unfolding kindsAt
   two-first s is j k at =
       class-kind source tokens good e j
@@ -289,14 +292,14 @@ module _ (source tokens : List ℕ) (good : Tokens tokens) (e : Names) where
   -- `~` IDENT expression block
   pub for-each : {n below : ℕ} {s s₀ s₁ s₂ s₃ : Step} {t t₂ t₃ : List ℕ} → kindAlternative statement (nextKind tokens s) ≡ 5
       → Within tokens 1 s → n ≡ suc below → s₀ ≡ opened s → askedAt (query twoNames) source tokens e s₀ ≡ true
-      → s₁ ≡ taken tokens ident s₀
+      → s₁ ≡ takenKind tokens ident s₀
       → Part below 1 expression s₁ t s₂ t₂
       → Part below 1 block s₂ t₂ s₃ t₃
-      → Under statement n below (row foreachRow) 4 [] s t s₃ t₃
+      → Under statement n below (givesRow foreachRow) 4 [] s t s₃ t₃
   unfolding levels asked
-  for-each {s₀ = s₀} begins within level to₀ is to₁ d₂ d₃ =
+  for-each {s₀ = s₀} beginsPart within level to₀ is to₁ d₂ d₃ =
       let fixed = names-fixed source tokens good e in
-      let a₀ = statement-begun 5 statement-tilde statement-tilde-begins begins within level refl to₀ in
+      let a₀ = statement-begun 5 statement-tilde statement-tilde-begins beginsPart within level refl to₀ in
       let said = spoken productions v tokens e fixed a₀ (λ (j k : ℕ) (at : s₀ ≡ Read j k).
       takes (tildeStatement-foreach v e j (class-low source tokens good e j)
       (asked-here source tokens e (query twoNames) s₀ true is j k at) (two-first s₀ is j k at))) refl in
@@ -306,9 +309,9 @@ module _ (source tokens : List ℕ) (good : Tokens tokens) (e : Names) where
 
   other-takes : (s : Step) → askedAt (query twoNames) source tokens e s ≡ false → (j k : ℕ) → s ≡ Read j k
       → Takes productions v e tildeStatement
-      (rule tildeStatement noRow (unless (query twoNames) ∷ part expression ∷ part loopOrComplement ∷ [])) j
+      (ruleOf tildeStatement noRow (unless (query twoNames) ∷ derived expression ∷ derived loopOrComplement ∷ [])) j
   unfolding nth asked
-  other-takes s not j k at = by (kindAlternative expression (kindOf (v .class e j))) refl
+  other-takes s not j k at = by (kindAlternative expression (kindOfClass (v .class e j))) refl
     where
       low : v .class e j < classes
       low = class-low source tokens good e j
@@ -316,9 +319,9 @@ module _ (source tokens : List ℕ) (good : Tokens tokens) (e : Names) where
       answer : v .holds twoNames j ≡ false
       answer = asked-here source tokens e (query twoNames) s false not j k at
 
-      by : (n : ℕ) → kindAlternative expression (kindOf (v .class e j)) ≡ n
+      by : (n : ℕ) → kindAlternative expression (kindOfClass (v .class e j)) ≡ n
           → Takes productions v e tildeStatement
-          (rule tildeStatement noRow (unless (query twoNames) ∷ part expression ∷ part loopOrComplement ∷ [])) j
+          (ruleOf tildeStatement noRow (unless (query twoNames) ∷ derived expression ∷ derived loopOrComplement ∷ [])) j
       by zero h =
           vain (tildeStatement-none v e j low answer h)
           (barred-condition (barred-part (expression-at v e j low ∙ ap (λ (n : ℕ). nth expression n productions) h)))
@@ -328,11 +331,11 @@ module _ (source tokens : List ℕ) (good : Tokens tokens) (e : Names) where
   tilde-begun : {n below : ℕ} {s s₀ s₁ : Step} {t t₁ : List ℕ} → kindAlternative statement (nextKind tokens s) ≡ 5
       → Within tokens 1 s → n ≡ suc below → s₀ ≡ opened s → askedAt (query twoNames) source tokens e s₀ ≡ false
       → Part below 1 expression s₀ t s₁ t₁
-      → Under statement n below rowOf 2 (part loopOrComplement ∷ []) s t s₁ t₁
+      → Under statement n below rowOf 2 (derived loopOrComplement ∷ []) s t s₁ t₁
   unfolding levels
-  tilde-begun {s₀ = s₀} begins within level to₀ not d₁ =
+  tilde-begun {s₀ = s₀} beginsPart within level to₀ not d₁ =
       let fixed = names-fixed source tokens good e in
-      let a₀ = statement-begun 5 statement-tilde statement-tilde-begins begins within level refl to₀ in
+      let a₀ = statement-begun 5 statement-tilde statement-tilde-begins beginsPart within level refl to₀ in
       let a = looked productions v tokens e fixed a₀ (other-takes s₀ not) refl in
       went productions v tokens e fixed
       (held productions v tokens e fixed a (met-here source tokens e (query twoNames) s₀ false not)) d₁
@@ -343,10 +346,10 @@ module _ (source tokens : List ℕ) (good : Tokens tokens) (e : Names) where
       → Part below 1 expression s₀ t s₁ t₁
       → eqb (nextKind tokens s₁) leftBrace ≡ true
       → Part below 1 block s₁ t₁ s₂ t₂
-      → Under statement n below (row whileRow) 3 [] s t s₂ t₂
-  while-loop {s₁ = s₁} begins within level to₀ not d₁ is d₂ =
-      let said = spoken-by source tokens good e (rule loopOrComplement (says whileRow) (part block ∷ []))
-      (tilde-begun begins within level to₀ not d₁)
+      → Under statement n below (givesRow whileRow) 3 [] s t s₂ t₂
+  while-loop {s₁ = s₁} beginsPart within level to₀ not d₁ is d₂ =
+      let said = spoken-by source tokens good e (ruleOf loopOrComplement (givesKind whileRow) (derived block ∷ []))
+      (tilde-begun beginsPart within level to₀ not d₁)
       (λ j k. loopOrComplement-some v e j (class-low source tokens good e j) (ap (λ (n : ℕ). eqb n leftBrace) k ∙ is)) refl in
       went productions v tokens e (names-fixed source tokens good e) said d₂
 
@@ -355,11 +358,11 @@ module _ (source tokens : List ℕ) (good : Tokens tokens) (e : Names) where
       → Within tokens 1 s → n ≡ suc below → s₀ ≡ opened s → askedAt (query twoNames) source tokens e s₀ ≡ false
       → Part below 1 expression s₀ t s₁ t₁
       → eqb (nextKind tokens s₁) leftBrace ≡ false
-      → Under statement n below (row complementRow) 2 [] s t s₁ t₁
+      → Under statement n below (givesRow complementRow) 2 [] s t s₁ t₁
   unfolding between and
-  tilde-complement {s₁ = s₁} begins within level to₀ not d₁ unbraced =
-      let said = spoken-by source tokens good e (rule loopOrComplement (says complementRow) (unless aBrace ∷ []))
-      (tilde-begun begins within level to₀ not d₁)
+  tilde-complement {s₁ = s₁} beginsPart within level to₀ not d₁ unbraced =
+      let said = spoken-by source tokens good e (ruleOf loopOrComplement (givesKind complementRow) (unless aBrace ∷ []))
+      (tilde-begun beginsPart within level to₀ not d₁)
       (λ j k. loopOrComplement-none v e j (class-low source tokens good e j) (ap (λ (n : ℕ). eqb n leftBrace) k ∙ unbraced)) refl in
       held productions v tokens e (names-fixed source tokens good e) said (λ (j k : ℕ) (is : s₁ ≡ Read j k).
       mark-met source tokens good e leftBrace false j refl

@@ -5,12 +5,12 @@ use mathlib.Core.Bool.{Bool, true, false}
 use mathlib.Core.List.{List}
 use native.Mathlib.Omega.{arith}
 use lib.Dec.{eqb}
-use Rattle.lexer.specs.Table.{rowsOf}
+use Rattle.lexer.specs.internal.TokenRows.{rowsOf}
 use Rattle.grammar.specs.Grammars.{Condition, Names, View, agrees, asked, met}
 use Rattle.grammar.specs.Languages.{language17}
 use Rattle.grammar.specs.Sources.{viewOf}
-use Rattle.parser.specs.Steps.{Small, Spans, small, over, spans, from-refused, to-refused, opened}
-use Rattle.parser.specs.Steps.{Within, inside, elsewhere, nextKind, askedAt, takenBy, taken, takenIf, reserved}
+use Rattle.parser.specs.internal.Steps.{Small, Spans, small, over, spans, from-refused, to-refused, opened, Within, inside}
+use Rattle.parser.specs.internal.Steps.{elsewhere, nextKind, askedAt, takenBy, takenKind, takenIf, rowLeft}
 use Rattle.parser.specs.declared.Step.{Step}
 use Rattle.parser.specs.declared.Step.the-variants.{Read, Refused}
 
@@ -38,13 +38,13 @@ spans-opened (Read at row) = spans {at = at} {row = row} {next = at + 1} {last =
 spans-opened (Refused number place) = from-refused
 
 -- a row left for what begins at the next token
-pub reserved-within : {s s' : Step} (tokens : List ℕ) → Within tokens 0 s → s' ≡ reserved s → Within tokens 1 s'
-unfolding reserved
+pub reserved-within : {s s' : Step} (tokens : List ℕ) → Within tokens 0 s → s' ≡ rowLeft s → Within tokens 1 s'
+unfolding rowLeft
 reserved-within tokens (inside {at = i} {row = r} few to) is = rw is (inside {at = i} {row = r + 1} few (omega arith))
 reserved-within tokens elsewhere is = rw is elsewhere
 
 -- a token that is taken where it is of a kind: it is, ..
-pub if-taken : (tokens : List ℕ) (kind : ℕ) (s : Step) → eqb (nextKind tokens s) kind ≡ true → takenIf tokens kind s ≡ taken tokens kind s
+pub if-taken : (tokens : List ℕ) (kind : ℕ) (s : Step) → eqb (nextKind tokens s) kind ≡ true → takenIf tokens kind s ≡ takenKind tokens kind s
 unfolding nextKind takenIf takenBy
 if-taken tokens kind (Read at row) h = rw h
 if-taken tokens kind (Refused number place) h = refl

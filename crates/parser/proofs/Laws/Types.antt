@@ -10,27 +10,28 @@ use lib.ListN.{replicate}
 use borrow.Author.Tests.{eqb-true}
 use Rattle.lexer.specs.Tests.{and, between}
 use Rattle.lexer.specs.internal.Kinds.{ident, at, rightParen}
-use Rattle.lexer.specs.Table.{tokenRoom, rowsOf}
-use Rattle.grammar.specs.Grammars.{Symbol, token, part, Makes, row, says, noRow, Names, View}
+use Rattle.lexer.specs.Table.{tokenRoom}
+use Rattle.lexer.specs.internal.TokenRows.{rowsOf}
+use Rattle.grammar.specs.Grammars.{Symbol, token, derived, Makes, givesRow, givesKind, noRow, Names, View}
 use Rattle.grammar.specs.Rows.{levels}
-use Rattle.grammar.specs.Reading.{none, one, choice}
-use Rattle.grammar.specs.internal.RowKinds.{baseTypeRow, functionTypeRow, instanceRow, namedTypeRow}
+use Rattle.grammar.specs.Reading.{none, selected, choice}
+use Rattle.tree.specs.internal.RowKinds.{baseTypeRow, functionTypeRow, instanceRow, namedTypeRow}
 use Rattle.grammar.specs.internal.Nonterminals.{type, types, parenthesized, moreWords}
-use Rattle.grammar.specs.internal.Classes.{name, word}
+use Rattle.grammar.specs.internal.Classes.{name, anyWord}
 use Rattle.grammar.specs.Nurl.{productions}
-use Rattle.grammar.specs.internal.Nurl.{rule, one as only}
+use Rattle.grammar.specs.internal.Productions.{ruleOf, kindToken as only}
 use Rattle.grammar.specs.Languages.{language17}
 use Rattle.grammar.specs.Sources.{viewOf}
-use Rattle.grammar.specs.Alternatives.{kindOf, kindAlternative, nth}
+use Rattle.grammar.specs.internal.Alternatives.{kindOfClass, kindAlternative, nth}
 use Rattle.grammar.proofs.Laws.Checks.{below, implies}
 use Rattle.grammar.proofs.Laws.Views.{classes}
 use Rattle.grammar.proofs.Laws.Groups17.{kindNumber}
 use Rattle.grammar.proofs.Laws.Alternatives17.{type-at, type-base, type-pointer, type-optional, type-slice, type-result}
 use Rattle.grammar.proofs.Laws.Alternatives17.{type-parenthesized, type-named, types-more, types-done, parenthesized-functionType}
 use Rattle.grammar.proofs.Laws.Alternatives17.{parenthesized-instance, parenthesized-none}
-use Rattle.parser.specs.Readings.{Reads}
-use Rattle.parser.specs.Steps.{Tokens, Within, nextKind, begins, refusedAt, taken, takenWord, opened, closed}
-use Rattle.parser.specs.Forms.{TypeOperator, pointer, optional, slice, result}
+use Rattle.parser.specs.internal.Readings.{Reads}
+use Rattle.parser.specs.internal.Steps.{Tokens, Within, nextKind, beginsPart, refusedAt, takenKind, takenWord, opened, closed}
+use Rattle.parser.specs.internal.Operators.{TypeOperator, pointer, optional, slice, result}
 use Rattle.parser.specs.declared.Step.{Step}
 use Rattle.parser.specs.declared.Step.the-variants.{Read}
 use Rattle.parser.proofs.Laws.After.{After, went, spoken, done, list-more, list-done}
@@ -60,22 +61,22 @@ module _ (source tokens : List ℕ) (good : Tokens tokens) (e : Names) where
   v = viewOf language17 source (rowsOf tokens)
 
   abbrev Under : ℕ → ℕ → ℕ → Makes → ℕ → List Symbol → Step → List ℕ → Step → List ℕ → Type 0
-  Under x n below m least ss = After productions v (tokenRoom tokens) e n below m least 0 (part x ∷ []) ss
+  Under x n below m least ss = After productions v (tokenRoom tokens) e n below m least 0 (derived x ∷ []) ss
 
   abbrev Part : ℕ → ℕ → ℕ → Step → List ℕ → Step → List ℕ → Type 0
-  Part n least x = Reads productions v (tokenRoom tokens) e n least 0 (part x ∷ [])
+  Part n least x = Reads productions v (tokenRoom tokens) e n least 0 (derived x ∷ [])
 
-  type-choice : (j : ℕ) → choice productions v e type j ≡ nth type (kindAlternative type (kindOf (v .class e j))) productions
+  type-choice : (j : ℕ) → choice productions v e type j ≡ nth type (kindAlternative type (kindOfClass (v .class e j))) productions
   type-choice j = type-at v e j (class-low source tokens good e j)
 
   -- there is none where no type begins
-  pub type-none : (j : ℕ) → kindAlternative type (kindOf (v .class e j)) ≡ 0 → choice productions v e type j ≡ none
+  pub type-none : (j : ℕ) → kindAlternative type (kindOfClass (v .class e j)) ≡ 0 → choice productions v e type j ≡ none
   unfolding nth
   type-none j is = type-choice j ∙ ap (λ (n : ℕ). nth type n productions) is
 
   -- an alternative that makes a row is begun with its token
   type-begun : {n below : ℕ} (number : ℕ) {m : Makes} {cs : List ℕ} {ss : List Symbol} {s s₀ : Step} {t : List ℕ}
-      → nth type number productions ≡ one (rule type m (token cs ∷ ss)) → Begins type number cs
+      → nth type number productions ≡ selected (ruleOf type m (token cs ∷ ss)) → Begins type number cs
       → kindAlternative type (nextKind tokens s) ≡ number → Within tokens 1 s → n ≡ suc below → levels m ≡ 1
       → s₀ ≡ opened s → Under type n below m 1 ss s t s₀ t
   type-begun number is opens = begun-at source tokens good e type-choice is opens
@@ -83,22 +84,22 @@ module _ (source tokens : List ℕ) (good : Tokens tokens) (e : Names) where
   -- a mark and so many types
   pub type-operator : {n below a count kind : ℕ} {s s₀ : Step} {t : List ℕ} → TypeOperator a count kind
       → kindAlternative type (nextKind tokens s) ≡ a → Within tokens 1 s → n ≡ suc below → s₀ ≡ opened s
-      → Under type n below (row kind) 1 (replicate count (part type)) s t s₀ t
+      → Under type n below (givesRow kind) 1 (replicate count (derived type)) s t s₀ t
   unfolding levels
-  type-operator pointer begins within level = type-begun 2 type-pointer type-pointer-begins begins within level refl
-  type-operator optional begins within level = type-begun 3 type-optional type-optional-begins begins within level refl
-  type-operator slice begins within level = type-begun 4 type-slice type-slice-begins begins within level refl
-  type-operator result begins within level = type-begun 5 type-result type-result-begins begins within level refl
+  type-operator pointer beginsPart within level = type-begun 2 type-pointer type-pointer-begins beginsPart within level refl
+  type-operator optional beginsPart within level = type-begun 3 type-optional type-optional-begins beginsPart within level refl
+  type-operator slice beginsPart within level = type-begun 4 type-slice type-slice-begins beginsPart within level refl
+  type-operator result beginsPart within level = type-begun 5 type-result type-result-begins beginsPart within level refl
 
   -- a type of one token
   type-leaf : {n below kind : ℕ} (number : ℕ) {cs : List ℕ} {s r : Step} {t after : List ℕ}
-      → nth type number productions ≡ one (rule type (row kind) (token cs ∷ [])) → Begins type number cs
+      → nth type number productions ≡ selected (ruleOf type (givesRow kind) (token cs ∷ [])) → Begins type number cs
       → kindAlternative type (nextKind tokens s) ≡ number → Within tokens 1 s → n ≡ suc below
       → r ≡ opened s → after ≡ closed kind s (opened s) t
       → Part n 1 type s t r after
   unfolding levels
-  type-leaf number is opens begins within level answer table =
-      closed-by productions v tokens e (names-fixed source tokens good e) (type-begun number is opens begins within level refl refl)
+  type-leaf number is opens beginsPart within level answer table =
+      closed-by productions v tokens e (names-fixed source tokens good e) (type-begun number is opens beginsPart within level refl refl)
       (omega arith) answer table
 
   pub base-type : {n below : ℕ} {s r : Step} {t after : List ℕ} → kindAlternative type (nextKind tokens s) ≡ 1 → Within tokens 1 s
@@ -113,31 +114,31 @@ module _ (source tokens : List ℕ) (good : Tokens tokens) (e : Names) where
 
   -- `(` `@` type type* `)`
   pub function-type : {n below : ℕ} {s s₀ s₁ s₂ s₃ s₄ : Step} {t t₁ t₂ : List ℕ} → kindAlternative type (nextKind tokens s) ≡ 6
-      → Within tokens 1 s → n ≡ suc below → s₀ ≡ opened s → eqb (nextKind tokens s₀) at ≡ true → s₁ ≡ taken tokens at s₀
+      → Within tokens 1 s → n ≡ suc below → s₀ ≡ opened s → eqb (nextKind tokens s₀) at ≡ true → s₁ ≡ takenKind tokens at s₀
       → Part below 1 type s₁ t s₂ t₁
-      → Part below 0 types s₂ t₁ s₃ t₂ → s₄ ≡ taken tokens rightParen s₃
-      → Under type n below (row functionTypeRow) 4 [] s t s₄ t₂
+      → Part below 0 types s₂ t₁ s₃ t₂ → s₄ ≡ takenKind tokens rightParen s₃
+      → Under type n below (givesRow functionTypeRow) 4 [] s t s₄ t₂
   unfolding levels between and
-  function-type {s₀ = s₀} begins within level to₀ is to₁ d₂ d₃ to₄ =
+  function-type {s₀ = s₀} beginsPart within level to₀ is to₁ d₂ d₃ to₄ =
       let fixed = names-fixed source tokens good e in
-      let a₀ = type-begun 6 type-parenthesized type-parenthesized-begins begins within level refl to₀ in
+      let a₀ = type-begun 6 type-parenthesized type-parenthesized-begins beginsPart within level refl to₀ in
       let said = spoken-by source tokens good e
-      (rule parenthesized (says functionTypeRow) (only at ∷ part type ∷ part types ∷ only rightParen ∷ [])) a₀
+      (ruleOf parenthesized (givesKind functionTypeRow) (only at ∷ derived type ∷ derived types ∷ only rightParen ∷ [])) a₀
       (λ j k. parenthesized-functionType v e j (class-low source tokens good e j) (k ∙ eqb-true (nextKind tokens s₀) at is)) refl in
       let a₁ = took-mark source tokens good e at said refl to₁ in
       let a₃ = went productions v tokens e fixed (went productions v tokens e fixed a₁ d₂) d₃ in
       took-mark source tokens good e rightParen a₃ refl to₄
 
-  instance-takes : (s : Step) → eqb (nextKind tokens s) at ≡ false → (j : ℕ) → kindOf (v .class e j) ≡ nextKind tokens s
-      → Takes productions v e parenthesized (rule parenthesized (says instanceRow) (token name ∷ token word ∷ part moreWords ∷ only
+  instance-takes : (s : Step) → eqb (nextKind tokens s) at ≡ false → (j : ℕ) → kindOfClass (v .class e j) ≡ nextKind tokens s
+      → Takes productions v e parenthesized (ruleOf parenthesized (givesKind instanceRow) (token name ∷ token anyWord ∷ derived moreWords ∷ only
       rightParen ∷ [])) j
-  instance-takes s not j k = by (eqb (kindOf (v .class e j)) ident) refl
+  instance-takes s not j k = by (eqb (kindOfClass (v .class e j)) ident) refl
     where
       low : v .class e j < classes
       low = class-low source tokens good e j
 
-      by : (b : Bool) → eqb (kindOf (v .class e j)) ident ≡ b
-          → Takes productions v e parenthesized (rule parenthesized (says instanceRow) (token name ∷ token word ∷ part moreWords ∷ only
+      by : (b : Bool) → eqb (kindOfClass (v .class e j)) ident ≡ b
+          → Takes productions v e parenthesized (ruleOf parenthesized (givesKind instanceRow) (token name ∷ token anyWord ∷ derived moreWords ∷ only
           rightParen ∷ [])) j
       by true h = takes (parenthesized-instance v e j low (eqb-true _ _ h))
       by false h =
@@ -146,13 +147,13 @@ module _ (source tokens : List ℕ) (good : Tokens tokens) (e : Names) where
 
   -- `(` IDENT word+ `)`
   pub instance : {n below : ℕ} {s s₀ s₁ s₂ s₃ s₄ : Step} {t : List ℕ} → kindAlternative type (nextKind tokens s) ≡ 6
-      → Within tokens 1 s → n ≡ suc below → s₀ ≡ opened s → eqb (nextKind tokens s₀) at ≡ false → s₁ ≡ taken tokens ident s₀
+      → Within tokens 1 s → n ≡ suc below → s₀ ≡ opened s → eqb (nextKind tokens s₀) at ≡ false → s₁ ≡ takenKind tokens ident s₀
       → s₂ ≡ takenWord tokens true s₁ → Part below 0 moreWords s₂ t s₃ t
-      → s₄ ≡ taken tokens rightParen s₃ → Under type n below (row instanceRow) 4 [] s t s₄ t
+      → s₄ ≡ takenKind tokens rightParen s₃ → Under type n below (givesRow instanceRow) 4 [] s t s₄ t
   unfolding levels between and
-  instance {s₀ = s₀} begins within level to₀ not to₁ to₂ d₃ to₄ =
+  instance {s₀ = s₀} beginsPart within level to₀ not to₁ to₂ d₃ to₄ =
       let fixed = names-fixed source tokens good e in
-      let a₀ = type-begun 6 type-parenthesized type-parenthesized-begins begins within level refl to₀ in
+      let a₀ = type-begun 6 type-parenthesized type-parenthesized-begins beginsPart within level refl to₀ in
       let said = spoken productions v tokens e fixed a₀
       (λ (j k : ℕ) (is : s₀ ≡ Read j k). instance-takes s₀ not j (reached source tokens good e s₀ j k is)) refl in
       let a₂ = took-word source tokens good e true (took-name source tokens good e said to₁) to₂ in
@@ -160,17 +161,17 @@ module _ (source tokens : List ℕ) (good : Tokens tokens) (e : Names) where
 
   -- as many types as there are
   pub types-go : {n : ℕ} {s s' s'' : Step} {t t' t'' : List ℕ}
-      → After productions v (tokenRoom tokens) e n n noRow 0 0 (part types ∷ []) (part types ∷ []) s t s' t'
-      → begins type tokens s' ≡ true
+      → After productions v (tokenRoom tokens) e n n noRow 0 0 (derived types ∷ []) (derived types ∷ []) s t s' t'
+      → beginsPart type tokens s' ≡ true
       → Part n 1 type s' t' s'' t''
-      → After productions v (tokenRoom tokens) e n n noRow 0 0 (part types ∷ []) (part types ∷ []) s t s'' t''
+      → After productions v (tokenRoom tokens) e n n noRow 0 0 (derived types ∷ []) (derived types ∷ []) s t s'' t''
   types-go {s' = s'} a is =
       list-more productions v tokens e (names-fixed source tokens good e) a (λ (j k : ℕ) (read : s' ≡ Read j k).
       types-more v e j (class-low source tokens good e j) (begins-there source tokens good e type s' is j k read))
 
   pub types-end : {n : ℕ} {s s' : Step} {t t' : List ℕ}
-      → After productions v (tokenRoom tokens) e n n noRow 0 0 (part types ∷ []) (part types ∷ []) s t s' t'
-      → begins type tokens s' ≡ false → Part n 0 types s t s' t'
+      → After productions v (tokenRoom tokens) e n n noRow 0 0 (derived types ∷ []) (derived types ∷ []) s t s' t'
+      → beginsPart type tokens s' ≡ false → Part n 0 types s t s' t'
   types-end {s' = s'} a is =
       let fixed = names-fixed source tokens good e in
       done productions v tokens e fixed (list-done productions v tokens e fixed a (λ (j k : ℕ) (read : s' ≡ Read j k).

@@ -11,20 +11,22 @@ use borrow.Author.Tests.{ltb-true, ltb-false}
 use Rattle.lexer.specs.Tests.{and, pick}
 use Rattle.lexer.specs.internal.Kinds.{ident, lastKind}
 use Rattle.lexer.specs.Tokens.{Token}
-use Rattle.lexer.specs.Table.{tokenRoom, rowsOf, noToken, rowAt, kindAt}
+use Rattle.lexer.specs.Table.{tokenRoom}
+use Rattle.lexer.specs.internal.TokenRows.{rowsOf, noToken, rowAt, kindAt, itemAt}
 use Rattle.lexer.proofs.Laws.Tests.{between-range}
 use Rattle.lexer.proofs.Laws.Rows.{no-row}
-use Rattle.typenames.specs.TypeNames.{itemOf, itemAt, items, isNamed}
+use Rattle.lexer.specs.Items.{itemOf, items}
+use Rattle.typenames.specs.TypeNames.{isNamed}
 use Rattle.grammar.specs.Grammars.{Names}
 use Rattle.grammar.specs.Classes.{typeName}
 use Rattle.grammar.specs.Languages.{language17, noItem, classOf, view}
 use Rattle.grammar.specs.Sources.{viewOf}
-use Rattle.grammar.specs.Alternatives.{kindOf}
+use Rattle.grammar.specs.internal.Alternatives.{kindOfClass}
 use Rattle.grammar.proofs.Laws.Alternatives.{kind-of-class}
 use Rattle.grammar.proofs.Laws.Views.{classes}
 use Rattle.grammar.proofs.Laws.Checks.{below}
 use Rattle.grammar.proofs.Laws.CheckLaws.{below-at}
-use Rattle.parser.specs.Steps.{Tokens}
+use Rattle.parser.specs.internal.Steps.{Tokens}
 
 -- an item of a source is the token in its row, past the last too
 item-by : (source : List ℕ) (ts : List Token) (at : ℕ) → getD (items source ts) at noItem ≡ itemOf source (getD ts at noToken)
@@ -59,7 +61,7 @@ module _ (source tokens : List ℕ) (good : Tokens tokens) (e : Names) where
       low-by false h = let z = no-row tokens j 0 (omega arith) (ltb-false _ _ h) in omega arith
 
   -- the class of a token shows its kind
-  pub class-kind : (j : ℕ) → kindOf (viewOf language17 source (rowsOf tokens) .class e j) ≡ kindAt tokens j
+  pub class-kind : (j : ℕ) → kindOfClass (viewOf language17 source (rowsOf tokens) .class e j) ≡ kindAt tokens j
   unfolding view
   class-kind j =
       let same = kind-here source tokens j in

@@ -11,13 +11,12 @@ use lib.Seq.{sets, set-append-left, length-take-le, drop-at}
 use borrow.Author.Tests.{ltb-true}
 use Rattle.lexer.specs.Tests.{pick}
 use Rattle.grammar.specs.Grammars.{Symbol, Production, Names, View}
-use Rattle.grammar.specs.Rows.{Row}
-use Rattle.grammar.specs.TreeTable.{treeWidth, treeRoom, treeRow, cleared}
-use Rattle.parser.specs.Trees.{putRow, put}
-use Rattle.parser.specs.Readings.{Reads, read, refused6, refused7, passed}
+use Rattle.tree.specs.TreeTable.{Row, treeWidth, treeRoom, treeRow, cleared}
+use Rattle.tree.specs.internal.Trees.{putRow, put}
+use Rattle.parser.specs.internal.Readings.{Reads, read, refused6, refused7, refusedBefore}
 use Rattle.parser.specs.declared.Step.{Step}
 use Rattle.parser.specs.declared.Step.the-variants.{Read, Refused}
-use Rattle.parser.proofs.Laws.Trees.{length-putRow, length-put}
+use Rattle.tree.proofs.Laws.Trees.{length-putRow, length-put}
 
 -- numbers written inside the front of a table leave what follows it
 sets-front : (front rest : List ℕ) (i : ℕ) (vs : List ℕ) → i + length vs ≤ length front → sets (front ++ rest) i vs ≡ sets front i vs ++ rest
@@ -94,7 +93,7 @@ module _ {g : List Production} {v : View} {count : ℕ} {e : Names} {n least mor
       read {i = i} {r = r} {j = j} {k = k} {rows = rows} gives enough whole far inside few
   read-into (refused6 gives same) lent j k h = let z : _≡_ {A = ℕ} 0 1 = cc in absurd (omega arith)
   read-into (refused7 gives same) lent j k h = let z : _≡_ {A = ℕ} 0 1 = cc in absurd (omega arith)
-  read-into (passed same) lent j k h = let z : _≡_ {A = ℕ} 0 1 = cc in absurd (omega arith)
+  read-into (refusedBefore same) lent j k h = let z : _≡_ {A = ℕ} 0 1 = cc in absurd (omega arith)
 
   -- a refusal leaves a table of the same length, and says the same of any other
   refused-length : {from to : Step} {front after : List ℕ} → Reads g v count e n least more ss from front to after
@@ -102,14 +101,14 @@ module _ {g : List Production} {v : View} {count : ℕ} {e : Names} {n least mor
   refused-length (read gives enough there far inside few) lent number place h = let z : _≡_ {A = ℕ} 0 1 = cc in absurd (omega arith)
   refused-length (refused6 gives same) lent number place h = rw (← is-end, ← lent) same
   refused-length (refused7 gives same) lent number place h = rw (← is-end, ← lent) same
-  refused-length (passed same) lent number place h = rw (← is-end, ← lent) same
+  refused-length (refusedBefore same) lent number place h = rw (← is-end, ← lent) same
 
   refused-again : {from to : Step} {front after final : List ℕ} → Reads g v count e n least more ss from front to after
       → length final ≡ length table → (number place : ℕ) → to ≡ Refused number place → Reads g v count e n least more ss from table to final
   refused-again (read gives enough there far inside few) same number place h = let z : _≡_ {A = ℕ} 0 1 = cc in absurd (omega arith)
   refused-again (refused6 gives l) same number place h = refused6 gives same
   refused-again (refused7 gives l) same number place h = refused7 gives same
-  refused-again (passed l) same number place h = passed same
+  refused-again (refusedBefore l) same number place h = refusedBefore same
 
   module _ {from to : Step} {after : List ℕ} (reads : Reads g v count e n least more ss from (take size table) to after) where
     pub read-whole : (j k : ℕ) → to ≡ Read j k

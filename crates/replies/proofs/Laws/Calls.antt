@@ -8,7 +8,7 @@ use lib.IntN.{ℤ, pos, negsuc}
 use lib.Signed.{ltZ}
 use borrow.Author.Tests.{ltb-true}
 use Rattle.lexer.specs.Tests.{pick}
-use Rattle.replies.specs.Input.{outcomeOf, afterCall, GotWithin}
+use Rattle.replies.specs.internal.Input.{outcomeOf, afterCall, GotWithin}
 use Rattle.replies.specs.declared.Outcome.{Outcome}
 use Rattle.replies.specs.declared.Outcome.the-variants.{Got, End, Interrupted, Failed}
 use Rattle.replies.specs.declared.Input.the-variants.{Script}

@@ -12,20 +12,20 @@ use borrow.Author.Tests.{le-leb}
 use Rattle.lexer.specs.Tests.{pick}
 use Rattle.lexer.specs.Text.{bytes}
 use Rattle.lexer.specs.Table.{tokenRoom}
-use Rattle.grammar.specs.Rows.{Row}
-use Rattle.grammar.specs.internal.RowKinds.{namedTypeRow}
+use Rattle.tree.specs.TreeTable.{Row, treeWidth, treeRoom, treeRows, placed}
+use Rattle.tree.specs.internal.RowKinds.{namedTypeRow}
 use Rattle.grammar.specs.Forests.{Forest, nothing, tree}
 use Rattle.grammar.specs.Languages.{language17}
-use Rattle.grammar.specs.TreeTable.{treeWidth, treeRoom, treeRows, placed}
-use Rattle.grammar.specs.Answers.{levelLimit, Result, answer17}
-use Rattle.grammar.specs.Demands.{Refusal, too-long, bad-names, bad-byte, open-string, few-token-rows, no-program, too-deep, few-tree-rows}
-use Rattle.grammar.specs.Demands.{Demands}
-use Rattle.grammar.specs.declared.Answer.{Answer}
-use Rattle.grammar.specs.declared.Answer.the-variants.{Accepted, Refused}
-use Rattle.grammar.proofs.Laws.RowKinds.{KindsTo, none, each}
-use Rattle.grammar.proofs.Laws.Nurl17.{theorems17, answer17-meets}
-use Rattle.parser.proofs.Laws.Trees.{length-treeRows}
-use Rattle.nurl.specs.Texts.{decimal, number, rowLine, rowLines, answerText, written, bytesWritten, overwritten}
+use Rattle.answer.specs.Answers.{levelLimit, Result, answer17}
+use Rattle.answer.specs.Demands.{Refusal, too-long, bad-names, bad-byte, open-string, few-token-rows, no-program, too-deep, few-tree-rows}
+use Rattle.answer.specs.Demands.{Demands}
+use Rattle.answer.specs.declared.Answer.{Answer}
+use Rattle.answer.specs.declared.Answer.the-variants.{Accepted, Refused}
+use Rattle.grammar.proofs.Laws.KnownKinds.{KindsTo, none, each}
+use Rattle.grammar.proofs.Laws.Nurl17.{theorems17}
+use Rattle.answer.proofs.Theorem.{answer-meets}
+use Rattle.tree.proofs.Laws.Trees.{length-treeRows}
+use Rattle.nurl.specs.Texts.{decimal, numberText, rowLine, rowLines, answerText, written, bytesWritten, overwritten}
 use Rattle.nurl.proofs.Laws.Texts.{overwritten-length, digits-of-ten, digits-of-more}
 use Rattle.nurl.proofs.Laws.Numbers.{refused-small}
 use Rattle.replies.specs.Desk.{scriptLimit, deskTokens, deskTree, deskResult, deskText, textRoom}
@@ -139,16 +139,16 @@ text-accepted tokens count table a b room all =
     let rows = lines-of-rows table (min count (treeRoom table)) all in
     simp length-append (omega arith)
 
-text-refused : (number place : ℕ) (table : List ℕ) → number < 10 → place < 2 ^ 32 → length (answerText (Refused number place) table) ≤ textRoom
+text-refused : (numberText place : ℕ) (table : List ℕ) → numberText < 10 → place < 2 ^ 32 → length (answerText (Refused numberText place) table) ≤ textRoom
 unfolding answerText bytes
-text-refused number place table a b =
-    let n = digits-of-ten number a in
+text-refused numberText place table a b =
+    let n = digits-of-ten numberText a in
     let p = digits-of-word place b in
     simp length-append (omega arith)
 
 -- No. 1 to 8 have one digit
 module _ (source names tokens rows : List ℕ) where
-  refusal-digit : {number place : ℕ} {ta ra : List ℕ} → Refusal language17 source names levelLimit tokens rows number place ta ra → number < 10
+  refusal-digit : {numberText place : ℕ} {ta ra : List ℕ} → Refusal language17 source names levelLimit tokens rows numberText place ta ra → numberText < 10
   refusal-digit (too-long a) = omega arith
   refusal-digit (bad-names a b) = omega arith
   refusal-digit (bad-byte a b) = omega arith
@@ -179,9 +179,9 @@ module _ (source names tokens rows : List ℕ) where
 
     answer-fits : (a : Answer) → r .answer ≡ a → length (answerText a (r .rows)) ≤ textRoom
     answer-fits (Accepted t n) h = accepted-fits t n h
-    answer-fits (Refused number place) h =
-        text-refused number place (r .rows) (refusal-digit (demands .demand1 .refused number place h))
-        (refused-small source names tokens rows r demands number place h)
+    answer-fits (Refused numberText place) h =
+        text-refused numberText place (r .rows) (refusal-digit (demands .demand1 .refused numberText place h))
+        (refused-small source names tokens rows r demands numberText place h)
 
 -- what two tables of these sizes are made of
 desk-token-room : tokenRoom deskTokens ≤ 5000
@@ -209,7 +209,7 @@ result-fits script tokens rows a b c = cases (ltb scriptLimit (length script))
         → length (answerText (pick t long (answer17 script [] tokens rows) .answer) (pick t long (answer17 script [] tokens rows) .rows)) ≤ textRoom
     cases true = text-refused 1 0 rows (omega arith) (omega arith)
     cases false =
-        answer-fits script [] tokens rows a b c (answer17 script [] tokens rows) (answer17-meets script [] tokens rows)
+        answer-fits script [] tokens rows a b c (answer17 script [] tokens rows) (answer-meets script [] tokens rows)
         (answer17 script [] tokens rows .answer) refl
 
 pub reply-fits : (script : List ℕ) → length (deskText script) ≤ textRoom

@@ -14,7 +14,7 @@ use Rattle.lexer.specs.Spellings.{same}
 use Rattle.lexer.specs.Words.{twoColons, asName, sameName}
 use Rattle.lexer.proofs.Laws.Tests.{and-false, and-true, and-left, and-right}
 use Rattle.lexer.proofs.Laws.Fronts.{front-none, front-one}
-use Rattle.typenames.specs.Pairs.{readAt, insideAfter}
+use Rattle.typenames.specs.internal.Pairs.{readAt, insideAfter}
 
 -- a name has as many bytes as what it is read as
 pick-length : (t : Bool) (v w : List ℕ) (n : ℕ) → length v ≡ n → length w ≡ n → length (pick t v w) ≡ n

@@ -14,12 +14,13 @@ use lib.Seq.{drop-cons}
 use Rattle.lexer.specs.Tests.{and, or, pick, among}
 use Rattle.lexer.specs.internal.Kinds.{ident, colon, bar, leftBrace, rightBrace, leftBracket}
 use Rattle.lexer.specs.Tokens.{Token}
-use Rattle.lexer.specs.Table.{tokenRoom, rowsOf, noToken, rowAt, kindAt}
+use Rattle.lexer.specs.Table.{tokenRoom}
+use Rattle.lexer.specs.internal.TokenRows.{rowsOf, noToken, rowAt, kindAt, itemAt}
 use Rattle.lexer.proofs.Laws.Tests.{or-false, eqb-turn}
 use Rattle.lexer.proofs.Laws.Rows.{rows-of-length}
-use Rattle.typenames.specs.TypeNames.{Item, itemOf, itemAt, items, enumName, structName, deeper, namesAt, declared}
-use Rattle.typenames.specs.TypeNames.{opening17}
-use Rattle.typenames.specs.Declarations.{offsetAfter, nameOffset, itemsFrom, declaredFrom, namesAtRow, NextName}
+use Rattle.lexer.specs.Items.{Item, itemOf, items}
+use Rattle.typenames.specs.TypeNames.{enumName, structName, deeper, namesAt, declared, opening17}
+use Rattle.typenames.specs.internal.Declarations.{offsetAfter, nameOffset, itemsFrom, declaredFrom, namesAtRow, NextName}
 
 -- the kinds that can follow a struct's name
 pub opens-brace : (k : ℕ) → k ≡ leftBrace → among opening17 k ≡ true

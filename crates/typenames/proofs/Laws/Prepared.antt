@@ -11,13 +11,15 @@ use lib.Seq.{drop-set-add, take-suc, take-suc-set, take-all}
 use Rattle.lexer.specs.Tests.{or, pick}
 use Rattle.lexer.specs.Words.{sameName}
 use Rattle.typenames.specs.NameList.{entries}
-use Rattle.typenames.specs.TypeNames.{Item, isNamed, declared, typeNames, inForce}
-use Rattle.typenames.specs.Prepared.{slots, passes, marked, markedAll, passing, preparedNames}
+use Rattle.lexer.specs.Items.{Item}
+use Rattle.typenames.specs.TypeNames.{isNamed, declared, typeNames}
+use Rattle.typenames.specs.internal.Scopes.{inForce}
+use Rattle.typenames.specs.internal.Prepared.{slots, passes, marked, markedAll, passing, preparedNames}
 use Rattle.typenames.specs.declared.Scope.{Scope}
 use Rattle.typenames.specs.declared.Scope.the-variants.{Program}
 use Rattle.typenames.proofs.Laws.Named.{named-append}
 use Rattle.typenames.proofs.Laws.Slots.{same-passes}
-use Rattle.typenames.proofs.Laws.Marks.{marked-passes, marked-room, all-list, all-still, all-append}
+use Rattle.typenames.proofs.Laws.Marked.{marked-passes, marked-room, all-list, all-still, all-append}
 
 -- names that pass a test that says the same of names that are the same
 module _ (f : List ℕ → Bool) (w : List ℕ) (agree : (n : List ℕ) → sameName n w ≡ true → f n ≡ f w) where

@@ -13,7 +13,7 @@ use Rattle.lexer.specs.Tests.{pick}
 use Rattle.lexer.specs.Words.{twoColons, asName, sameName}
 use Rattle.lexer.proofs.Laws.Tests.{and-left, and-right}
 use Rattle.lexer.proofs.Laws.Fronts.{front-none, front-one}
-use Rattle.typenames.specs.Prepared.{slots, folded, hashFrom, hash, passes}
+use Rattle.typenames.specs.internal.Prepared.{slots, folded, hashFrom, slotOf, passes}
 use Rattle.typenames.proofs.Laws.Compared.{same-equal}
 
 from-below : (h : ℕ) (w : List ℕ) → h < slots → hashFrom h w < slots
@@ -21,8 +21,8 @@ unfolding hashFrom
 from-below h [] below = below
 from-below h (b ∷ w) below = from-below ((h * 31 + folded b) % slots) w (omega arith)
 
-pub hash-below : (w : List ℕ) → hash w < slots
-unfolding hash
+pub hash-below : (w : List ℕ) → slotOf w < slots
+unfolding slotOf
 hash-below w = from-below 0 w (omega arith)
 
 -- from a place of a name on
@@ -55,8 +55,8 @@ hash-name (a ∷ b ∷ s) h = hash-pair h a b s (twoColons (a ∷ b ∷ [])) ref
 
 -- names that are the same have the same slot, so that both pass or none does
 module _ (v w : List ℕ) (e : sameName v w ≡ true) where
-  same-hash : hash v ≡ hash w
-  unfolding hash sameName
+  same-hash : slotOf v ≡ slotOf w
+  unfolding slotOf sameName
   same-hash = sym (hash-name v 0) ∙ ap (hashFrom 0) (same-equal (asName v) (asName w) e) ∙ hash-name w 0
 
   pub same-passes : (p : List ℕ) → passes p v ≡ passes p w

@@ -6,9 +6,9 @@ use Rattle.lexer.proofs.Laws.Computed.{entry}
 use Rattle.grammar.specs.internal.Nonterminals.{expression}
 use Rattle.grammar.proofs.Laws.Alternatives.{kind-past}
 use Rattle.grammar.proofs.Laws.Groups17.{kindNumber, kind-same}
-use borrow.Author.Needs.{needs}
 use Rattle.grammar.proofs.alternatives.expression_alternative.Statement.{statement}
 use Rattle.grammar.proofs.alternatives.expression_alternative.Tie as tie
+use borrow.Author.Needs.{needs}
 
 returns : tie.Need-returns
 returns c = sym (kind-past expression (c .before .args .kind) (c .if1 .taken))

@@ -1,12 +1,12 @@
 -- `lexer::bytes::begins_either` meets its contract: the byte there, if there is one, is compared with both.
 -- Assumes nothing.
 use Rattle.lexer.proofs.Laws.Fronts.{front-none, front-one}
-use borrow.Author.Tests.{eq-eqb, ne-eqb}
 use Rattle.lexer.specs.Tests.{or}
 use Rattle.lexer.specs.Bytes.{beginsEither}
-use borrow.Author.Needs.{needs}
 use Rattle.lexer.proofs.bytes.begins_either.Statement.{statement}
 use Rattle.lexer.proofs.bytes.begins_either.Tie as tie
+use borrow.Author.Tests.{eq-eqb, ne-eqb}
+use borrow.Author.Needs.{needs}
 
 shared-slice-read-if2 : tie.Need-shared-slice-read-if2
 shared-slice-read-if2 c = search needs

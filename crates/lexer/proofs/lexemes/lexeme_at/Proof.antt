@@ -8,15 +8,15 @@ use borrow.Author.Tests.{eqb-true, eq-eqb}
 use Rattle.lexer.specs.Bytes.{isSpace}
 use Rattle.lexer.specs.Editions.{edition17}
 use Rattle.lexer.specs.Lexemes.{spaces, comment, word, unsignedNumber, number, text, mark, orElse, lexeme}
-use Rattle.lexer.specs.Leaves.{classOf}
+use Rattle.lexer.specs.internal.Leaves.{byteClass}
 use Rattle.lexer.specs.declared.Lexeme.{Lexeme}
 use Rattle.lexer.proofs.Laws.Classes.{class-space, class-minus, class-slash, class-backtick}
 use Rattle.lexer.proofs.Laws.Fronts.{front-none, front-one}
 use Rattle.lexer.proofs.Laws.Lexemes.{lexeme-letter, lexeme-space, lexeme-digit, lexeme-minus, lexeme-slash, lexeme-backtick}
 use Rattle.lexer.proofs.Laws.Lexemes.{lexeme-mark, string-first}
-use borrow.Author.Needs.{needs}
 use Rattle.lexer.proofs.lexemes.lexeme_at.Statement.{statement}
 use Rattle.lexer.proofs.lexemes.lexeme_at.Tie as tie
+use borrow.Author.Needs.{needs}
 
 -- what a rule f gives at a place, from what it gives at the first byte there and those after it
 here : (f : List ℕ → Lexeme) (s : List ℕ) (at : ℕ) → at < length s
@@ -32,10 +32,10 @@ module _ (c : tie.After-class-of) where
   byte : first < 256
   byte = c .before .shared-slice-known2 .given (c .before .before .before .before .args .at) .fits
 
-  class-is : (k : ℕ) → c .class-of .result ≡ k → classOf first ≡ k
+  class-is : (k : ℕ) → c .class-of .result ≡ k → byteClass first ≡ k
   class-is k h = sym (c .class-of .ensures) ∙ h
 
-  class-not : (k : ℕ) → (c .class-of .result ≡ k → ⊥) → classOf first ≡ k → ⊥
+  class-not : (k : ℕ) → (c .class-of .result ≡ k → ⊥) → byteClass first ≡ k → ⊥
   class-not k h e = h (c .class-of .ensures ∙ e)
 
   space-there : c .class-of .result ≡ 2 → isSpace first ≡ true

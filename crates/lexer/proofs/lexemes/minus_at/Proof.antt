@@ -6,17 +6,17 @@ use mathlib.Core.List.{[], _∷_}
 use native.Mathlib.Numerals.{add-one}
 use lib.ListN.{drop, length-drop}
 use Rattle.lexer.proofs.Laws.Sizes.{of-token, proper-unsigned}
-use denote.Enum.Declared.{tagOf}
-use types.Run.{OneOf, miss}
 use Rattle.lexer.specs.Lexemes.{unsignedNumber, withMinus, orElse}
 use Rattle.lexer.specs.declared.Lexeme.{Lexeme}
 use Rattle.lexer.proofs.Lexeme.{the-type}
 use Rattle.lexer.specs.declared.Lexeme.the-variants.{End, Skipped, Token, BadByte, OpenString}
 use Rattle.lexer.proofs.Laws.Lexemes.{minus-number, minus-mark}
-use native.Mathlib.Omega.{arith}
-use borrow.Author.Needs.{needs}
 use Rattle.lexer.proofs.lexemes.minus_at.Statement.{statement}
 use Rattle.lexer.proofs.lexemes.minus_at.Tie as tie
+use denote.Enum.Declared.{tagOf}
+use types.Run.{OneOf, miss}
+use native.Mathlib.Omega.{arith}
+use borrow.Author.Needs.{needs}
 
 -- a lexeme that is not a token takes no minus
 no-minus : (l : Lexeme) → OneOf (0 ∷ 1 ∷ 3 ∷ 4 ∷ []) (tagOf the-type l) → withMinus l ≡ BadByte

@@ -5,10 +5,10 @@ use Rattle.lexer.specs.Lexemes.{orElse}
 use Rattle.lexer.specs.declared.Lexeme.{Lexeme}
 use Rattle.lexer.proofs.Laws.Numbers.{begins-inside}
 use Rattle.lexer.proofs.Laws.Lexemes.{comment-found, comment-lost, slash-mark}
-use native.Mathlib.Omega.{arith}
-use borrow.Author.Needs.{needs}
 use Rattle.lexer.proofs.lexemes.slash_at.Statement.{statement}
 use Rattle.lexer.proofs.lexemes.slash_at.Tie as tie
+use native.Mathlib.Omega.{arith}
+use borrow.Author.Needs.{needs}
 
 add-begins-either : tie.Need-add-begins-either
 add-begins-either c = search needs

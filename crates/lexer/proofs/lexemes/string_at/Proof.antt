@@ -4,10 +4,10 @@ use mathlib.Core.Path.{_∙_, sym, ap}
 use Rattle.lexer.specs.internal.Kinds.{string}
 use Rattle.lexer.specs.declared.Lexeme.{Lexeme}
 use Rattle.lexer.proofs.Laws.Lexemes.{string-closed, string-open}
-use native.Mathlib.Omega.{arith}
-use borrow.Author.Needs.{needs}
 use Rattle.lexer.proofs.lexemes.string_at.Statement.{statement}
 use Rattle.lexer.proofs.lexemes.string_at.Tie as tie
+use native.Mathlib.Omega.{arith}
+use borrow.Author.Needs.{needs}
 
 add-run-end : tie.Need-add-run-end
 add-run-end c = search needs

@@ -1,9 +1,9 @@
 -- `lexer::marks::mark_of_one` meets its contract. Assumes nothing.
 use mathlib.Core.Path.{_∙_, sym}
 use Rattle.lexer.proofs.Laws.Marks.{one-found, one-lost}
-use borrow.Author.Needs.{needs}
 use Rattle.lexer.proofs.marks.mark_of_one.Statement.{statement}
 use Rattle.lexer.proofs.marks.mark_of_one.Tie as tie
+use borrow.Author.Needs.{needs}
 
 mark-kind-requires : tie.Need-mark-kind-requires
 mark-kind-requires c κs = search needs

@@ -1,9 +1,9 @@
 -- `lexer::marks::mark_of_two` meets its contract. Assumes nothing.
 use mathlib.Core.Path.{_∙_, sym}
 use Rattle.lexer.proofs.Laws.Marks.{two-found, two-lost}
-use borrow.Author.Needs.{needs}
 use Rattle.lexer.proofs.marks.mark_of_two.Statement.{statement}
 use Rattle.lexer.proofs.marks.mark_of_two.Tie as tie
+use borrow.Author.Needs.{needs}
 
 pair-kind-requires : tie.Need-pair-kind-requires
 pair-kind-requires c κs = search needs

@@ -2,10 +2,10 @@
 use mathlib.Core.Path.{_∙_, sym}
 use native.Mathlib.Nat.{add-zero}
 use Rattle.lexer.proofs.Laws.Numbers.{begins-inside, exponent-none, exponent-lost, exponent-found}
-use native.Mathlib.Omega.{arith}
-use borrow.Author.Needs.{needs}
 use Rattle.lexer.proofs.numbers.exponent_end.Statement.{statement}
 use Rattle.lexer.proofs.numbers.exponent_end.Tie as tie
+use native.Mathlib.Omega.{arith}
+use borrow.Author.Needs.{needs}
 
 begins-either-requires : tie.Need-begins-either-requires
 begins-either-requires c κs = search needs

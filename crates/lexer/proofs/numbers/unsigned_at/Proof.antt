@@ -4,10 +4,10 @@ use Prim.Native.Nat.{ℕ, _+_, _-_}
 use Rattle.lexer.specs.internal.Kinds.{int, float}
 use Rattle.lexer.specs.declared.Lexeme.{Lexeme}
 use Rattle.lexer.proofs.Laws.Numbers.{no-number, whole-number, float-number}
-use native.Mathlib.Omega.{arith}
-use borrow.Author.Needs.{needs}
 use Rattle.lexer.proofs.numbers.unsigned_at.Statement.{statement}
 use Rattle.lexer.proofs.numbers.unsigned_at.Tie as tie
+use native.Mathlib.Omega.{arith}
+use borrow.Author.Needs.{needs}
 
 -- the length of what ends so many bytes after its start
 spans : (at len last : ℕ) → last ≡ at + len → last - at ≡ len

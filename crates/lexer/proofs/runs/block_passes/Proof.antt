@@ -6,7 +6,7 @@ use mathlib.Core.Bool.{true, false, not}
 use mathlib.Core.Logic.{⊎-elim}
 use native.Mathlib.Omega.{arith}
 use native.Mathlib.Nat.{add-zero}
-use Rattle.lexer.specs.Leaves.{isNot, Goes}
+use Rattle.lexer.specs.internal.Leaves.{isNot, Goes}
 use Rattle.lexer.proofs.Laws.Tests.{not-true}
 use Rattle.lexer.proofs.Laws.Runs.{follow-to, is-other}
 use Rattle.lexer.proofs.runs.block_passes.Statement.{statement}

@@ -5,7 +5,7 @@ use Prim.Native.Nat.{_-_}
 use lib.ListN.{length}
 use borrow.Author.Needs.{needs}
 use Rattle.lexer.specs.Bytes.{isSpace}
-use Rattle.lexer.specs.Leaves.{Goes}
+use Rattle.lexer.specs.internal.Leaves.{Goes}
 use Rattle.lexer.proofs.Laws.Runs.{follow-on, follow-ends, follow-past}
 use Rattle.lexer.proofs.runs.spaces_end.Statement.{statement}
 use Rattle.lexer.proofs.runs.spaces_end.Tie as tie

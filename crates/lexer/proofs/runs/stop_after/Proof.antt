@@ -4,7 +4,7 @@ use mathlib.Core.Path.{refl}
 use Prim.Native.Nat.{_-_}
 use lib.ListN.{length}
 use borrow.Author.Needs.{needs}
-use Rattle.lexer.specs.Leaves.{isNot, Goes}
+use Rattle.lexer.specs.internal.Leaves.{isNot, Goes}
 use Rattle.lexer.proofs.Laws.Runs.{follow-on, follow-ends, follow-past, is-stop, is-other}
 use Rattle.lexer.proofs.runs.stop_after.Statement.{statement}
 use Rattle.lexer.proofs.runs.stop_after.Tie as tie

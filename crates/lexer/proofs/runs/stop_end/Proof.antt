@@ -5,10 +5,10 @@ use mathlib.Core.Path.{refl, _∙_}
 use native.Mathlib.Omega.{arith}
 use lib.ListN.{length}
 use Rattle.lexer.proofs.Laws.Tests.{not-false}
-use Rattle.lexer.specs.Leaves.{isNot, Goes}
-use borrow.Author.Needs.{needs}
+use Rattle.lexer.specs.internal.Leaves.{isNot, Goes}
 use Rattle.lexer.proofs.runs.stop_end.Statement.{statement}
 use Rattle.lexer.proofs.runs.stop_end.Tie as tie
+use borrow.Author.Needs.{needs}
 
 abbrev Inv-loop : tie.InvT-loop
 Inv-loop source at stop last i₀ i = Goes (isNot stop) source at i

@@ -1,9 +1,9 @@
 -- `lexer::table::entry_at` meets its contract: the number at that place of the table is the row's. Assumes nothing.
 use mathlib.Core.Path.{sym}
 use Rattle.lexer.proofs.Laws.Rows.{row-number, no-row}
-use borrow.Author.Needs.{needs}
 use Rattle.lexer.proofs.table.entry_at.Statement.{statement}
 use Rattle.lexer.proofs.table.entry_at.Tie as tie
+use borrow.Author.Needs.{needs}
 
 mul-result : tie.Need-mul-result
 mul-result c = search needs

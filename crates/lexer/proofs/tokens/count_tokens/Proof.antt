@@ -5,15 +5,15 @@ use mathlib.Core.Path.{_∙_, sym}
 use lib.ListN.{length}
 use borrow.Author.Tests.{lt-ltb, le-ltb}
 use Rattle.lexer.specs.Editions.{edition17}
-use Rattle.lexer.specs.Table.{counted, scannedValues}
+use Rattle.lexer.specs.internal.Tokenized.{counted, scannedValues}
 use Rattle.lexer.proofs.Laws.Answers.{valued}
 use Rattle.lexer.proofs.Laws.Scans.{scan-from-start}
 use Rattle.lexer.proofs.Laws.Counts.{Counted, plus-none, skip-inside, token-inside, count-end, count-skip, count-token, count-bad}
 use Rattle.lexer.proofs.Laws.Counts.{count-open}
-use borrow.Author.Needs.{needs}
-use native.Mathlib.Omega.{arith}
 use Rattle.lexer.proofs.tokens.count_tokens.Statement.{statement}
 use Rattle.lexer.proofs.tokens.count_tokens.Tie as tie
+use borrow.Author.Needs.{needs}
+use native.Mathlib.Omega.{arith}
 
 abbrev Inv-loop : tie.InvT-loop
 Inv-loop source at₀ count₀ at count = (at ≤ length source) × (count ≤ at) × Counted source at count

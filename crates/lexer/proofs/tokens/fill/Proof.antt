@@ -7,10 +7,10 @@ use Rattle.lexer.proofs.Laws.Counts.{skip-inside, token-inside}
 use Rattle.lexer.proofs.Laws.Fills.{Filling, fill-start, fill-length, fill-skip, fill-inside, fill-token, fill-end, not-bad}
 use Rattle.lexer.proofs.Laws.Fills.{not-open}
 use Rattle.lexer.proofs.Laws.Rows.{row-written}
-use borrow.Author.Needs.{needs}
-use native.Mathlib.Omega.{arith}
 use Rattle.lexer.proofs.tokens.fill.Statement.{statement}
 use Rattle.lexer.proofs.tokens.fill.Tie as tie
+use borrow.Author.Needs.{needs}
+use native.Mathlib.Omega.{arith}
 
 abbrev Inv-loop : tie.InvT-loop
 Inv-loop source table₀ at₀ row₀ table at row = (at ≤ length source) × (row ≤ at) × Filling source table₀ table at row

@@ -1,12 +1,12 @@
 -- `lexer::tokens::tokenize` meets its contract: what the count and the table's room decide. Assumes nothing.
 use mathlib.Core.Path.{_∙_, sym, ap}
 use Rattle.lexer.specs.Editions.{edition17}
-use Rattle.lexer.specs.Table.{counted, scannedValues}
+use Rattle.lexer.specs.internal.Tokenized.{counted, scannedValues}
 use Rattle.lexer.proofs.Laws.Answers.{clean-count, answer-refused, answer-full, answer-tokens}
-use native.Mathlib.Omega.{arith}
-use borrow.Author.Needs.{needs}
 use Rattle.lexer.proofs.tokens.tokenize.Statement.{statement}
 use Rattle.lexer.proofs.tokens.tokenize.Tie as tie
+use native.Mathlib.Omega.{arith}
+use borrow.Author.Needs.{needs}
 
 count-tokens-requires : tie.Need-count-tokens-requires
 count-tokens-requires c κs = search needs

@@ -7,10 +7,10 @@ use lib.ListN.{drop}
 use borrow.Author.Tests.{eq-eqb, ne-eqb}
 use Rattle.lexer.specs.Words.{wordLength}
 use Rattle.lexer.proofs.Laws.Words.{one-inside, ident-one-at, ident-other}
-use native.Mathlib.Omega.{arith}
-use borrow.Author.Needs.{needs}
 use Rattle.lexer.proofs.words.ident_end.Statement.{statement}
 use Rattle.lexer.proofs.words.ident_end.Tie as tie
+use native.Mathlib.Omega.{arith}
+use borrow.Author.Needs.{needs}
 
 -- what the first test tells where it holds
 one : (c : tie.Then1) → let a = c .before .before .before .args in wordLength (drop (a .at) (a .source .now)) ≡ 1

@@ -3,10 +3,10 @@ use mathlib.Core.Path.{ap}
 use Prim.Native.Nat.{ℕ}
 use Rattle.lexer.specs.internal.Kinds.{ident}
 use Rattle.lexer.specs.declared.Lexeme.{Lexeme}
-use native.Mathlib.Omega.{arith}
-use borrow.Author.Needs.{needs}
 use Rattle.lexer.proofs.words.joined.Statement.{statement}
 use Rattle.lexer.proofs.words.joined.Tie as tie
+use native.Mathlib.Omega.{arith}
+use borrow.Author.Needs.{needs}
 
 joins-end-requires : tie.Need-joins-end-requires
 joins-end-requires c κs = search needs

@@ -6,10 +6,10 @@ use native.Mathlib.Nat.{add-zero}
 use lib.ListN.{length, drop}
 use Rattle.lexer.specs.Words.{joins}
 use Rattle.lexer.proofs.Laws.Words.{joins-none-at, joins-lost-at, joins-more-at, colons-inside}
-use borrow.Author.Needs.{needs}
-use native.Mathlib.Omega.{arith}
 use Rattle.lexer.proofs.words.joins_end.Statement.{statement}
 use Rattle.lexer.proofs.words.joins_end.Tie as tie
+use borrow.Author.Needs.{needs}
+use native.Mathlib.Omega.{arith}
 
 abbrev Inv-loop : tie.InvT-loop
 Inv-loop source end i₀ i = i + joins (drop i source) ≡ end + joins (drop end source)

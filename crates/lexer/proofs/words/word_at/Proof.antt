@@ -5,10 +5,10 @@ use native.Mathlib.Nat.{add-sub-cancel-left}
 use lib.ListN.{drop}
 use Rattle.lexer.specs.Words.{wordLength}
 use Rattle.lexer.proofs.Laws.Words.{one-inside, kind-one-at, kind-other, word-le, no-word, ident-word, letter-word}
-use native.Mathlib.Omega.{arith}
-use borrow.Author.Needs.{needs}
 use Rattle.lexer.proofs.words.word_at.Statement.{statement}
 use Rattle.lexer.proofs.words.word_at.Tie as tie
+use native.Mathlib.Omega.{arith}
+use borrow.Author.Needs.{needs}
 
 -- what the second test tells where it holds
 one : (c : tie.Then2) → let a = c .before .before .before .before .args in wordLength (drop (a .at) (a .source .now)) ≡ 1

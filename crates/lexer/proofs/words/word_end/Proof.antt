@@ -5,10 +5,10 @@ use borrow.Author.Tests.{eq-eqb, ne-eqb}
 use Rattle.lexer.proofs.Laws.Classes.{class-letter}
 use Rattle.lexer.proofs.Laws.Fronts.{front-none, front-one}
 use Rattle.lexer.proofs.Laws.Words.{word-letter, word-none, word-nil}
-use native.Mathlib.Omega.{arith}
-use borrow.Author.Needs.{needs}
 use Rattle.lexer.proofs.words.word_end.Statement.{statement}
 use Rattle.lexer.proofs.words.word_end.Tie as tie
+use native.Mathlib.Omega.{arith}
+use borrow.Author.Needs.{needs}
 
 shared-slice-read-class-of : tie.Need-shared-slice-read-class-of
 shared-slice-read-class-of c = search needs

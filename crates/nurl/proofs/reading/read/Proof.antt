@@ -4,9 +4,9 @@ use native.Mathlib.Omega.{arith}
 use lib.Seq.{length-take-le}
 use Rattle.nurl.proofs.Laws.Results.{meets, refused-long, refused-names, refused-tokens, lent-inside, lent-after, lent-scan}
 use Rattle.nurl.proofs.Laws.Results.{good-short, read-rest}
-use borrow.Author.Needs.{needs}
 use Rattle.nurl.proofs.reading.read.Statement.{statement}
 use Rattle.nurl.proofs.reading.read.Tie as tie
+use borrow.Author.Needs.{needs}
 
 returns : tie.Need-returns
 returns c =

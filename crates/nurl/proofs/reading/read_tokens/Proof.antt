@@ -6,16 +6,17 @@ use mathlib.Core.List.{_++_}
 use native.Mathlib.Omega.{arith}
 use lib.ListN.{length, take, drop}
 use lib.Seq.{length-take-le}
-use Rattle.lexer.specs.Table.{rowsOf}
-use Rattle.typenames.specs.TypeNames.{items, opening17}
-use Rattle.typenames.specs.Prepared.{preparedNames}
+use Rattle.lexer.specs.internal.TokenRows.{rowsOf}
+use Rattle.lexer.specs.Items.{items}
+use Rattle.typenames.specs.TypeNames.{opening17}
+use Rattle.typenames.specs.internal.Prepared.{preparedNames}
 use Rattle.grammar.specs.Languages.{language17}
 use Rattle.grammar.specs.Sources.{namesOf}
 use Rattle.nurl.proofs.Laws.Rows.{kept-size, front-inside, front-counts, lent-names, tokens-good, accepted-rows, full-rows}
 use Rattle.nurl.proofs.Laws.Rows.{refused-rows}
-use borrow.Author.Needs.{needs}
 use Rattle.nurl.proofs.reading.read_tokens.Statement.{statement}
 use Rattle.nurl.proofs.reading.read_tokens.Tie as tie
+use borrow.Author.Needs.{needs}
 
 names-buffer-requires : tie.Need-names-buffer-requires
 names-buffer-requires c κs = search needs

@@ -3,14 +3,14 @@ use Prim.Native.Nat.{ℕ, _<_}
 use native.Mathlib.Omega.{arith}
 use borrow.Author.Needs.{needs}
 use Rattle.nurl.proofs.Laws.Texts.{decimal-last, decimal-more, appends-append}
-use borrow.Fn.Kinds.{In}
-use borrow.Fn.PlainCycle.{Measures, is, falls, and}
 use Rattle.nurl.proofs.text.put_decimal.Reads as put-decimal
 use Rattle.nurl.proofs.text.put_decimal.Kinds as put-decimal-kinds
 use Rattle.nurl.proofs.text.+put_decimal.Lts-put_decimal as put-decimal-lts
 use Rattle.nurl.proofs.text.put_digit.Reads as put-digit-reads
 use Rattle.nurl.proofs.text.+put_decimal.{statement}
 use Rattle.nurl.proofs.text.+put_decimal.Tie.{close}
+use borrow.Fn.Kinds.{In}
+use borrow.Fn.PlainCycle.{Measures, is, falls, and}
 
 abbrev μ-put-decimal : Measures 1 put-decimal-kinds.ps ℕ
 μ-put-decimal κs a = a .1 .1 .0

@@ -1,8 +1,8 @@
 -- `nurl::text::bytes_written` meets its contract. Assumes nothing.
 use Rattle.nurl.specs.Texts.{bytesWritten}
-use borrow.Author.Needs.{needs}
 use Rattle.nurl.proofs.text.bytes_written.Statement.{statement}
 use Rattle.nurl.proofs.text.bytes_written.Tie as tie
+use borrow.Author.Needs.{needs}
 
 enum-known-written : tie.Need-enum-known-written
 enum-known-written c = search needs

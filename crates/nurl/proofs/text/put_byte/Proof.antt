@@ -1,8 +1,8 @@
 -- `nurl::text::put_byte` meets its contract. Assumes nothing.
 use Rattle.nurl.proofs.Laws.Texts.{appends-byte, appends-full, appends-cut}
-use borrow.Author.Needs.{needs}
 use Rattle.nurl.proofs.text.put_byte.Statement.{statement}
 use Rattle.nurl.proofs.text.put_byte.Tie as tie
+use borrow.Author.Needs.{needs}
 
 enum-told : tie.Need-enum-told
 enum-told c = search needs

@@ -5,11 +5,11 @@ use native.Mathlib.Omega.{arith}
 use native.Mathlib.Numerals.{add-one}
 use lib.ListN.{length, take}
 use lib.Seq.{take-suc, take-length}
-use Rattle.nurl.specs.Texts.{Appends}
+use Rattle.nurl.specs.internal.Writing.{Appends}
 use Rattle.nurl.proofs.Laws.Texts.{appends-nothing, appends-append}
-use borrow.Author.Needs.{needs}
 use Rattle.nurl.proofs.text.put_bytes.Statement.{statement}
 use Rattle.nurl.proofs.text.put_bytes.Tie as tie
+use borrow.Author.Needs.{needs}
 
 abbrev Inv-loop : tie.InvT-loop
 Inv-loop output₀ text to₀ i₀ output to i =

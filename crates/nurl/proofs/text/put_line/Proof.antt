@@ -1,8 +1,8 @@
 -- `nurl::text::put_line` meets its contract. Assumes nothing.
 use Rattle.nurl.proofs.Laws.Texts.{appends-append}
-use borrow.Author.Needs.{needs}
 use Rattle.nurl.proofs.text.put_line.Statement.{statement}
 use Rattle.nurl.proofs.text.put_line.Tie as tie
+use borrow.Author.Needs.{needs}
 
 put-bytes-requires : tie.Need-put-bytes-requires
 put-bytes-requires c κs = search needs

@@ -1,8 +1,8 @@
 -- `nurl::text::put_number` meets its contract. Assumes nothing.
 use Rattle.nurl.proofs.Laws.Texts.{appends-append}
-use borrow.Author.Needs.{needs}
 use Rattle.nurl.proofs.text.put_number.Statement.{statement}
 use Rattle.nurl.proofs.text.put_number.Tie as tie
+use borrow.Author.Needs.{needs}
 
 put-decimal-requires : tie.Need-put-decimal-requires
 put-decimal-requires c κs = search needs

@@ -2,9 +2,9 @@
 use Prim.Native.Nat.{_+_, _*_}
 use native.Mathlib.Omega.{arith}
 use Rattle.nurl.proofs.Laws.Texts.{appends-append}
-use borrow.Author.Needs.{needs}
 use Rattle.nurl.proofs.text.put_row.Statement.{statement}
 use Rattle.nurl.proofs.text.put_row.Tie as tie
+use borrow.Author.Needs.{needs}
 
 mul-at : tie.Need-mul-at
 mul-at c = search needs

@@ -4,12 +4,13 @@ use mathlib.Core.Path.{_≡_, refl, _∙_}
 use native.Mathlib.Omega.{arith}
 use native.Mathlib.Numerals.{add-one}
 use lib.ListN.{length}
-use Rattle.grammar.specs.TreeTable.{treeRoom}
-use Rattle.nurl.specs.Texts.{Appends, rowLines}
+use Rattle.tree.specs.TreeTable.{treeRoom}
+use Rattle.nurl.specs.internal.Writing.{Appends}
+use Rattle.nurl.specs.Texts.{rowLines}
 use Rattle.nurl.proofs.Laws.Texts.{appends-nothing, appends-append}
-use borrow.Author.Needs.{needs}
 use Rattle.nurl.proofs.text.put_rows.Statement.{statement}
 use Rattle.nurl.proofs.text.put_rows.Tie as tie
+use borrow.Author.Needs.{needs}
 
 abbrev Inv-loop : tie.InvT-loop
 Inv-loop output₀ rows count room to₀ row₀ output to row =

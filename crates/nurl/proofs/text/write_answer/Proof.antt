@@ -2,9 +2,9 @@
 use Rattle.lexer.specs.Text.{bytes}
 use Rattle.nurl.specs.Texts.{answerText}
 use Rattle.nurl.proofs.Laws.Texts.{appends-append, appends-all}
-use borrow.Author.Needs.{needs}
 use Rattle.nurl.proofs.text.write_answer.Statement.{statement}
 use Rattle.nurl.proofs.text.write_answer.Tie as tie
+use borrow.Author.Needs.{needs}
 
 enum-known-answer : tie.Need-enum-known-answer
 enum-known-answer c = search needs

@@ -1,8 +1,8 @@
 -- `parser::declarations::begins_declaration` meets its contract. Assumes nothing.
-use Rattle.parser.specs.Steps.{begins}
-use borrow.Author.Needs.{needs}
+use Rattle.parser.specs.internal.Steps.{beginsPart}
 use Rattle.parser.proofs.declarations.begins_declaration.Statement.{statement}
 use Rattle.parser.proofs.declarations.begins_declaration.Tie as tie
+use borrow.Author.Needs.{needs}
 
 next-kind-requires : tie.Need-next-kind-requires
 next-kind-requires c κs = search needs
@@ -11,7 +11,7 @@ declaration-alternative-requires : tie.Need-declaration-alternative-requires
 declaration-alternative-requires c κs = search needs
 
 returns : tie.Need-returns
-unfolding begins
+unfolding beginsPart
 returns c =
     let next-kind = c .before .next-kind in
     rw (c .declaration-alternative .ensures, next-kind .ensures)

@@ -1,8 +1,8 @@
 -- `parser::declarations::begins_payload_type` meets its contract. Assumes nothing.
-use Rattle.parser.specs.Steps.{payloadBegins}
-use borrow.Author.Needs.{needs}
+use Rattle.parser.specs.internal.Steps.{payloadBegins}
 use Rattle.parser.proofs.declarations.begins_payload_type.Statement.{statement}
 use Rattle.parser.proofs.declarations.begins_payload_type.Tie as tie
+use borrow.Author.Needs.{needs}
 
 plain-name-requires : tie.Need-plain-name-requires
 plain-name-requires c κs = search needs

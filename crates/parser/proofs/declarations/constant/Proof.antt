@@ -9,9 +9,9 @@ use Rattle.parser.proofs.Laws.Readers.{level-below, opened-within, with
 use Rattle.parser.proofs.Laws.Openings.{no-declaration}
 use Rattle.parser.proofs.Laws.Options.{within-if}
 use Rattle.parser.proofs.Laws.Definitions.{constant}
-use native.Mathlib.Omega.{arith}
 use Rattle.parser.proofs.declarations.constant.Statement.{statement}
 use Rattle.parser.proofs.declarations.constant.Tie as tie
+use native.Mathlib.Omega.{arith}
 
 open-row-requires : tie.Need-open-row-requires
 open-row-requires c κs =

@@ -2,13 +2,13 @@
 use mathlib.Core.Path.{_≡_, _∙_, ap, sym}
 use native.Mathlib.Nat.{pos-of-ne-zero}
 use Rattle.grammar.specs.internal.Nonterminals.{declaration}
-use Rattle.grammar.specs.Alternatives.{kindAlternative}
+use Rattle.grammar.specs.internal.Alternatives.{kindAlternative}
 use Rattle.parser.proofs.Laws.Readers.{beyond}
 use Rattle.parser.proofs.Laws.Declarations.{declaration-few, function-kind, declaration-stuck, declaration-deep, function-declares}
-use native.Mathlib.Omega.{arith}
-use borrow.Author.Needs.{needs}
 use Rattle.parser.proofs.declarations.declaration.Statement.{statement}
 use Rattle.parser.proofs.declarations.declaration.Tie as tie
+use native.Mathlib.Omega.{arith}
+use borrow.Author.Needs.{needs}
 
 next-kind-requires : tie.Need-next-kind-requires
 next-kind-requires c κs = search needs

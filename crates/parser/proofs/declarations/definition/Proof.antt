@@ -4,13 +4,13 @@ use lib.Dec.{eqb}
 use borrow.Author.Tests.{eqb-true}
 use Rattle.lexer.specs.internal.Kinds.{bar}
 use Rattle.grammar.specs.Grammars.{query}
-use Rattle.grammar.specs.internal.Nurl.{opensStruct}
-use Rattle.parser.specs.Steps.{nextKind, askedAt}
+use Rattle.grammar.specs.internal.Productions.{opensStruct}
+use Rattle.parser.specs.internal.Steps.{nextKind, askedAt}
 use Rattle.parser.proofs.Laws.After.{within-small}
-use native.Mathlib.Omega.{arith}
-use borrow.Author.Needs.{needs}
 use Rattle.parser.proofs.declarations.definition.Statement.{statement}
 use Rattle.parser.proofs.declarations.definition.Tie as tie
+use native.Mathlib.Omega.{arith}
+use borrow.Author.Needs.{needs}
 
 open-row-requires : tie.Need-open-row-requires
 open-row-requires c κs =

@@ -2,15 +2,15 @@
 use mathlib.Core.Path.{_∙_, ap}
 use Rattle.grammar.specs.internal.Nonterminals.{declaration}
 use Rattle.grammar.specs.Nurl.{productions}
-use Rattle.parser.specs.Steps.{nextKind}
+use Rattle.parser.specs.internal.Steps.{nextKind}
 use Rattle.parser.proofs.Laws.After.{within-small, reads-within}
 use Rattle.parser.proofs.Laws.Views.{names-fixed}
 use Rattle.parser.proofs.Laws.Readers.{level-below, opened-within, within-mark, closing, closed-by}
 use Rattle.parser.proofs.Laws.Openings.{no-declaration}
 use Rattle.parser.proofs.Laws.Definitions.{enum}
-use native.Mathlib.Omega.{arith}
 use Rattle.parser.proofs.declarations.enumeration.Statement.{statement}
 use Rattle.parser.proofs.declarations.enumeration.Tie as tie
+use native.Mathlib.Omega.{arith}
 
 open-row-requires : tie.Need-open-row-requires
 open-row-requires c κs =

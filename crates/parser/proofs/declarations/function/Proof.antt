@@ -12,10 +12,10 @@ use Rattle.parser.proofs.Laws.Readers.{level-below, within-mark, closin
 use Rattle.parser.proofs.Laws.Options.{opened-where}
 use Rattle.parser.proofs.Laws.Declarations.{function-deep}
 use Rattle.parser.proofs.Laws.Functions.{function-reads}
-use native.Mathlib.Omega.{arith}
-use borrow.Author.Needs.{needs}
 use Rattle.parser.proofs.declarations.function.Statement.{statement}
 use Rattle.parser.proofs.declarations.function.Tie as tie
+use native.Mathlib.Omega.{arith}
+use borrow.Author.Needs.{needs}
 
 refuse-requires : tie.Need-refuse-requires
 refuse-requires c κs = search needs

@@ -3,30 +3,31 @@ use mathlib.Core.Path.{_≡_, refl, _∙_, sym}
 use mathlib.Core.List.{[], _∷_}
 use lib.ListN.{length}
 use borrow.Author.Tests.{eqb-true}
-use Rattle.lexer.specs.Table.{tokenRoom, rowsOf}
-use Rattle.grammar.specs.Grammars.{part, noRow}
+use Rattle.lexer.specs.Table.{tokenRoom}
+use Rattle.lexer.specs.internal.TokenRows.{rowsOf}
+use Rattle.grammar.specs.Grammars.{derived, noRow}
 use Rattle.grammar.specs.internal.Nonterminals.{functions}
 use Rattle.grammar.specs.Nurl.{productions}
 use Rattle.grammar.specs.Languages.{language17}
 use Rattle.grammar.specs.Sources.{viewOf}
-use Rattle.parser.specs.Readings.{namesIn}
+use Rattle.parser.specs.internal.Readings.{namesIn}
 use Rattle.parser.proofs.Laws.After.{After, start, after-within, within-wider}
 use Rattle.parser.proofs.Laws.Views.{names-fixed}
 use Rattle.parser.proofs.Laws.Loops.{ahead, reads-falls}
 use Rattle.parser.proofs.Laws.Functions.{at-kind, functions-go, functions-end}
-use borrow.Author.Needs.{needs}
-use native.Mathlib.Omega.{arith}
 use Rattle.parser.proofs.declarations.functions.Statement.{statement}
 use Rattle.parser.proofs.declarations.functions.Tie as tie
+use borrow.Author.Needs.{needs}
+use native.Mathlib.Omega.{arith}
 
 abbrev Inv-loop : tie.InvT-loop
-Inv-loop source names tokens rows₀ scope left step₀ rows step =
+Inv-loop source prepared tokens rows₀ scope left step₀ rows step =
     (length rows ≡ length rows₀) ×
-    (After productions (viewOf language17 source (rowsOf tokens)) (tokenRoom tokens) (namesIn source names tokens scope) left left
-    noRow 0 0 (part functions ∷ []) (part functions ∷ []) step₀ rows₀ step rows)
+    (After productions (viewOf language17 source (rowsOf tokens)) (tokenRoom tokens) (namesIn source prepared tokens scope) left left
+    noRow 0 0 (derived functions ∷ []) (derived functions ∷ []) step₀ rows₀ step rows)
 
 abbrev μ-loop : tie.MeasureT-loop
-μ-loop source names tokens rows₀ scope left step₀ rows step = ahead tokens step
+μ-loop source prepared tokens rows₀ scope left step₀ rows step = ahead tokens step
 
 loop-holds : tie.Need-loop-holds Inv-loop μ-loop
 loop-holds c =

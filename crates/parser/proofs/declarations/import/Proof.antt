@@ -7,9 +7,9 @@ use Rattle.parser.proofs.Laws.Views.{names-fixed}
 use Rattle.parser.proofs.Laws.Readers.{level-below, opened-within, within-mark, closing, closed-by}
 use Rattle.parser.proofs.Laws.Openings.{no-declaration}
 use Rattle.parser.proofs.Laws.Declarations.{import}
-use native.Mathlib.Omega.{arith}
 use Rattle.parser.proofs.declarations.import.Statement.{statement}
 use Rattle.parser.proofs.declarations.import.Tie as tie
+use native.Mathlib.Omega.{arith}
 
 open-row-requires : tie.Need-open-row-requires
 open-row-requires c κs =

@@ -9,10 +9,10 @@ use Rattle.parser.proofs.Laws.Readers.{level-below, opened-within, with
 use Rattle.parser.proofs.Laws.Openings.{no-declaration}
 use Rattle.parser.proofs.Laws.Declarations.{interface-declares}
 use Rattle.parser.proofs.Laws.Functions.{trait, impl}
-use native.Mathlib.Omega.{arith}
-use borrow.Author.Needs.{needs}
 use Rattle.parser.proofs.declarations.interface.Statement.{statement}
 use Rattle.parser.proofs.declarations.interface.Tie as tie
+use native.Mathlib.Omega.{arith}
+use borrow.Author.Needs.{needs}
 
 open-row-requires : tie.Need-open-row-requires
 open-row-requires c κs =

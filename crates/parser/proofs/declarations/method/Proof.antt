@@ -11,10 +11,10 @@ use Rattle.parser.proofs.Laws.Views.{names-fixed}
 use Rattle.parser.proofs.Laws.Readers.{level-below, within-mark, closing, closed-by}
 use Rattle.parser.proofs.Laws.Options.{opened-where}
 use Rattle.parser.proofs.Laws.Functions.{method-reads, header-reads, method-deep}
-use native.Mathlib.Omega.{arith}
-use borrow.Author.Needs.{needs}
 use Rattle.parser.proofs.declarations.method.Statement.{statement}
 use Rattle.parser.proofs.declarations.method.Tie as tie
+use native.Mathlib.Omega.{arith}
+use borrow.Author.Needs.{needs}
 
 refuse-requires : tie.Need-refuse-requires
 refuse-requires c κs = search needs

@@ -4,14 +4,15 @@ use mathlib.Core.List.{[], _∷_}
 use native.Mathlib.Nat.{pos-of-ne-zero}
 use Prim.Native.Nat.{_-_}
 use lib.ListN.{length}
-use Rattle.lexer.specs.Table.{tokenRoom, rowsOf}
-use Rattle.grammar.specs.Grammars.{part, row}
-use Rattle.grammar.specs.internal.RowKinds.{programRow}
+use Rattle.lexer.specs.Table.{tokenRoom}
+use Rattle.lexer.specs.internal.TokenRows.{rowsOf}
+use Rattle.grammar.specs.Grammars.{derived, givesRow}
+use Rattle.tree.specs.internal.RowKinds.{programRow}
 use Rattle.grammar.specs.internal.Nonterminals.{program, declarations, declaration as aDeclaration}
 use Rattle.grammar.specs.Nurl.{productions}
 use Rattle.grammar.specs.Languages.{language17}
 use Rattle.grammar.specs.Sources.{viewOf}
-use Rattle.parser.specs.Readings.{namesIn}
+use Rattle.parser.specs.internal.Readings.{namesIn}
 use Rattle.parser.specs.declared.Step.the-variants.{Read}
 use Rattle.parser.proofs.Laws.After.{After, after-within, within-small}
 use Rattle.parser.proofs.Laws.Views.{names-fixed}
@@ -20,19 +21,19 @@ use Rattle.parser.proofs.Laws.Loops.{ahead, reads-falls, begins-kind}
 use Rattle.parser.proofs.Laws.Openings.{no-declaration}
 use Rattle.parser.proofs.Laws.Declarations.{declarations-go, declarations-end}
 use Rattle.parser.proofs.Laws.Programs.{first-within, program-begun, program-closing, program-closed, program-deep}
-use borrow.Author.Needs.{needs}
-use native.Mathlib.Omega.{arith}
 use Rattle.parser.proofs.declarations.program.Statement.{statement}
 use Rattle.parser.proofs.declarations.program.Tie as tie
+use borrow.Author.Needs.{needs}
+use native.Mathlib.Omega.{arith}
 
 abbrev Inv-loop : tie.InvT-loop
-Inv-loop source names tokens rows₀ scope left from step₀ rows step =
+Inv-loop source prepared tokens rows₀ scope left from step₀ rows step =
     (length rows ≡ length rows₀) ×
-    (After productions (viewOf language17 source (rowsOf tokens)) (tokenRoom tokens) (namesIn source names tokens scope) left (left - 1)
-    (row programRow) 0 1 (part program ∷ []) (part declarations ∷ []) (Read 0 0) rows₀ step rows)
+    (After productions (viewOf language17 source (rowsOf tokens)) (tokenRoom tokens) (namesIn source prepared tokens scope) left (left - 1)
+    (givesRow programRow) 0 1 (derived program ∷ []) (derived declarations ∷ []) (Read 0 0) rows₀ step rows)
 
 abbrev μ-loop : tie.MeasureT-loop
-μ-loop source names tokens rows₀ scope left from step₀ rows step = ahead tokens step
+μ-loop source prepared tokens rows₀ scope left from step₀ rows step = ahead tokens step
 
 refuse-requires : tie.Need-refuse-requires Inv-loop μ-loop
 refuse-requires c κs = search needs

@@ -3,11 +3,11 @@ use Prim.Native.Nat.{ℕ, _*_}
 use mathlib.Core.Path.{sym, ap}
 use native.Mathlib.Omega.{arith}
 use lib.Seq.{length-take-le}
-use Rattle.grammar.specs.TreeTable.{treeWidth}
+use Rattle.tree.specs.TreeTable.{treeWidth}
 use Rattle.parser.proofs.Laws.WholeRows.{read-whole, refused-whole}
-use borrow.Author.Needs.{needs}
 use Rattle.parser.proofs.declarations.read_program.Statement.{statement}
 use Rattle.parser.proofs.declarations.read_program.Tie as tie
+use borrow.Author.Needs.{needs}
 
 room-requires : tie.Need-room-requires
 room-requires c κs = search needs

@@ -7,10 +7,10 @@ use Rattle.parser.proofs.Laws.Views.{names-fixed}
 use Rattle.parser.proofs.Laws.Readers.{level-below, closing, closed-by}
 use Rattle.parser.proofs.Laws.Steps.{reserved-within}
 use Rattle.parser.proofs.Laws.Definitions.{variant-named, variant-reads, variant-deep}
-use native.Mathlib.Omega.{arith}
-use borrow.Author.Needs.{needs}
 use Rattle.parser.proofs.declarations.variant.Statement.{statement}
 use Rattle.parser.proofs.declarations.variant.Tie as tie
+use native.Mathlib.Omega.{arith}
+use borrow.Author.Needs.{needs}
 
 refuse-requires : tie.Need-refuse-requires
 refuse-requires c κs = search needs

@@ -2,29 +2,30 @@
 use mathlib.Core.Path.{_≡_, refl, _∙_, sym}
 use mathlib.Core.List.{[], _∷_}
 use lib.ListN.{length}
-use Rattle.lexer.specs.Table.{tokenRoom, rowsOf}
-use Rattle.grammar.specs.Grammars.{part, noRow}
+use Rattle.lexer.specs.Table.{tokenRoom}
+use Rattle.lexer.specs.internal.TokenRows.{rowsOf}
+use Rattle.grammar.specs.Grammars.{derived, noRow}
 use Rattle.grammar.specs.internal.Nonterminals.{variants}
 use Rattle.grammar.specs.Nurl.{productions}
 use Rattle.grammar.specs.Languages.{language17}
 use Rattle.grammar.specs.Sources.{viewOf}
-use Rattle.parser.specs.Readings.{namesIn}
+use Rattle.parser.specs.internal.Readings.{namesIn}
 use Rattle.parser.proofs.Laws.After.{After, start, after-within}
 use Rattle.parser.proofs.Laws.Views.{names-fixed}
 use Rattle.parser.proofs.Laws.Loops.{ahead, reads-falls}
 use Rattle.parser.proofs.Laws.Definitions.{plain-kind, variants-go, variants-end}
-use borrow.Author.Needs.{needs}
 use Rattle.parser.proofs.declarations.variants.Statement.{statement}
 use Rattle.parser.proofs.declarations.variants.Tie as tie
+use borrow.Author.Needs.{needs}
 
 abbrev Inv-loop : tie.InvT-loop
-Inv-loop source names tokens rows₀ scope left step₀ rows step =
+Inv-loop source prepared tokens rows₀ scope left step₀ rows step =
     (length rows ≡ length rows₀) ×
-    (After productions (viewOf language17 source (rowsOf tokens)) (tokenRoom tokens) (namesIn source names tokens scope) left left
-    noRow 0 0 (part variants ∷ []) (part variants ∷ []) step₀ rows₀ step rows)
+    (After productions (viewOf language17 source (rowsOf tokens)) (tokenRoom tokens) (namesIn source prepared tokens scope) left left
+    noRow 0 0 (derived variants ∷ []) (derived variants ∷ []) step₀ rows₀ step rows)
 
 abbrev μ-loop : tie.MeasureT-loop
-μ-loop source names tokens rows₀ scope left step₀ rows step = ahead tokens step
+μ-loop source prepared tokens rows₀ scope left step₀ rows step = ahead tokens step
 
 loop-holds : tie.Need-loop-holds Inv-loop μ-loop
 loop-holds c =

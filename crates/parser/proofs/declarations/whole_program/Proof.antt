@@ -1,9 +1,9 @@
 -- `parser::declarations::whole_program` meets its contract. Assumes nothing.
 use mathlib.Core.Path.{_∙_, sym}
 use Rattle.parser.proofs.Laws.Programs.{first-within, whole-ends, whole-stuck}
-use borrow.Author.Needs.{needs}
 use Rattle.parser.proofs.declarations.whole_program.Statement.{statement}
 use Rattle.parser.proofs.declarations.whole_program.Tie as tie
+use borrow.Author.Needs.{needs}
 
 program-requires : tie.Need-program-requires
 program-requires c κs =

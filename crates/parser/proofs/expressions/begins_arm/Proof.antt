@@ -3,9 +3,9 @@ use borrow.Author.Tests.{eq-eqb, ne-eqb}
 use Rattle.lexer.specs.Tests.{or}
 use Rattle.lexer.specs.internal.Kinds.{ident}
 use Rattle.parser.proofs.Laws.Kinds.{among-two}
-use borrow.Author.Needs.{needs}
 use Rattle.parser.proofs.expressions.begins_arm.Statement.{statement}
 use Rattle.parser.proofs.expressions.begins_arm.Tie as tie
+use borrow.Author.Needs.{needs}
 
 next-kind-requires : tie.Need-next-kind-requires
 next-kind-requires c κs = search needs

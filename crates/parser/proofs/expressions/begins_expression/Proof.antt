@@ -1,8 +1,8 @@
 -- `parser::expressions::begins_expression` meets its contract. Assumes nothing.
-use Rattle.parser.specs.Steps.{begins}
-use borrow.Author.Needs.{needs}
+use Rattle.parser.specs.internal.Steps.{beginsPart}
 use Rattle.parser.proofs.expressions.begins_expression.Statement.{statement}
 use Rattle.parser.proofs.expressions.begins_expression.Tie as tie
+use borrow.Author.Needs.{needs}
 
 next-kind-requires : tie.Need-next-kind-requires
 next-kind-requires c κs = search needs
@@ -11,7 +11,7 @@ expression-alternative-requires : tie.Need-expression-alternative-requires
 expression-alternative-requires c κs = search needs
 
 returns : tie.Need-returns
-unfolding begins
+unfolding beginsPart
 returns c =
     let next-kind = c .before .next-kind in
     rw (c .expression-alternative .ensures, next-kind .ensures)

@@ -3,14 +3,14 @@ use mathlib.Core.Path.{refl, _∙_, sym, ap}
 use native.Mathlib.Omega.{arith}
 use native.Mathlib.Nat.{pos-of-ne-zero}
 use Rattle.grammar.specs.internal.Nonterminals.{expression}
-use Rattle.grammar.specs.Alternatives.{kindAlternative}
+use Rattle.grammar.specs.internal.Alternatives.{kindAlternative}
 use Rattle.parser.proofs.Laws.After.{within-small}
 use Rattle.parser.proofs.Laws.Readers.{level-below, opened-within}
 use Rattle.parser.proofs.Laws.Openings.{no-expression}
 use Rattle.parser.proofs.Laws.Expressions.{literal-leaf, literal-stuck, literal-deep}
-use borrow.Author.Needs.{needs}
 use Rattle.parser.proofs.expressions.literal.Statement.{statement}
 use Rattle.parser.proofs.expressions.literal.Tie as tie
+use borrow.Author.Needs.{needs}
 
 next-kind-requires : tie.Need-next-kind-requires
 next-kind-requires c κs = search needs

@@ -1,6 +1,6 @@
 -- `parser::expressions::operand_count` meets its contract. Assumes nothing.
 use borrow.Author.Tests.{ne-eqb}
-use Rattle.parser.specs.Forms.{operandCount}
+use Rattle.parser.specs.internal.Operators.{operandCount}
 use Rattle.parser.proofs.expressions.operand_count.Statement.{statement}
 use Rattle.parser.proofs.expressions.operand_count.Tie as tie
 

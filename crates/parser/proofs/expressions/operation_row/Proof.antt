@@ -1,6 +1,6 @@
 -- `parser::expressions::operation_row` meets its contract. Assumes nothing.
 use borrow.Author.Tests.{ne-eqb}
-use Rattle.parser.specs.Forms.{operationRow}
+use Rattle.parser.specs.internal.Operators.{operationRow}
 use Rattle.parser.proofs.expressions.operation_row.Statement.{statement}
 use Rattle.parser.proofs.expressions.operation_row.Tie as tie
 

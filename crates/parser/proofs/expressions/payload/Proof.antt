@@ -7,9 +7,9 @@ use Rattle.parser.proofs.Laws.After.{within-small}
 use Rattle.parser.proofs.Laws.Readers.{level-below}
 use Rattle.parser.proofs.Laws.Options.{opened-where}
 use Rattle.parser.proofs.Laws.Matches.{payloadKinds, payload-leaf, payload-deep}
-use borrow.Author.Needs.{needs}
 use Rattle.parser.proofs.expressions.payload.Statement.{statement}
 use Rattle.parser.proofs.expressions.payload.Tie as tie
+use borrow.Author.Needs.{needs}
 
 refuse-requires : tie.Need-refuse-requires
 refuse-requires c κs = search needs

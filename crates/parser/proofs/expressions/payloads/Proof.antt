@@ -5,8 +5,9 @@ use mathlib.Core.Path.{_≡_, refl, _∙_, sym}
 use mathlib.Core.List.{List, [], _∷_}
 use native.Mathlib.Omega.{arith}
 use lib.ListN.{length}
-use Rattle.lexer.specs.Table.{tokenRoom, rowsOf}
-use Rattle.grammar.specs.Grammars.{part, noRow, Names}
+use Rattle.lexer.specs.Table.{tokenRoom}
+use Rattle.lexer.specs.internal.TokenRows.{rowsOf}
+use Rattle.grammar.specs.Grammars.{derived, noRow, Names}
 use Rattle.grammar.specs.internal.Nonterminals.{payloads3}
 use Rattle.grammar.specs.Nurl.{productions}
 use Rattle.grammar.specs.Languages.{language17}
@@ -14,14 +15,14 @@ use Rattle.grammar.specs.Sources.{viewOf}
 use Rattle.parser.proofs.Laws.After.{After, start, after-within, within-wider}
 use Rattle.parser.proofs.Laws.Views.{names-fixed}
 use Rattle.parser.proofs.Laws.Matches.{payloadsLeft, payloads-go, payloads-end, payloads-all}
-use borrow.Author.Needs.{needs}
 use Rattle.parser.proofs.expressions.payloads.Statement.{statement}
 use Rattle.parser.proofs.expressions.payloads.Tie as tie
+use borrow.Author.Needs.{needs}
 
 abbrev Inv-loop : tie.InvT-loop
 Inv-loop tokens rows₀ left step₀ done₀ rows step done =
     (length rows ≡ length rows₀) × ((source : List ℕ) (e : Names) →
-    After productions (viewOf language17 source (rowsOf tokens)) (tokenRoom tokens) e left left noRow 0 0 (part payloads3 ∷ [])
+    After productions (viewOf language17 source (rowsOf tokens)) (tokenRoom tokens) e left left noRow 0 0 (derived payloads3 ∷ [])
     (payloadsLeft done) step₀ rows₀ step rows)
 
 abbrev μ-loop : tie.MeasureT-loop

@@ -2,9 +2,9 @@
 use native.Mathlib.Omega.{arith}
 use Rattle.parser.proofs.Laws.After.{within-wider}
 use Rattle.parser.proofs.Laws.Expressions.{selector-some, selector-none}
-use borrow.Author.Needs.{needs}
 use Rattle.parser.proofs.expressions.selector.Statement.{statement}
 use Rattle.parser.proofs.expressions.selector.Tie as tie
+use borrow.Author.Needs.{needs}
 
 zero-or-one-requires : tie.Need-zero-or-one-requires
 zero-or-one-requires c κs = search needs

@@ -6,7 +6,7 @@ use borrow.Author.Tests.{eq-eqb, ne-eqb}
 use borrow.Author.Needs.{needs}
 use Rattle.lexer.specs.Tests.{and}
 use Rattle.lexer.proofs.Laws.Tests.{and-true}
-use Rattle.parser.specs.Steps.{kindsAt}
+use Rattle.parser.specs.internal.Steps.{kindsAt}
 use Rattle.parser.proofs.Laws.Views.{kind-inside}
 use Rattle.parser.proofs.questions.names_before_arrow.Statement.{statement}
 use Rattle.parser.proofs.questions.names_before_arrow.Tie as tie

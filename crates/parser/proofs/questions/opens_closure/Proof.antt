@@ -6,7 +6,7 @@ use borrow.Author.Needs.{needs}
 use Rattle.lexer.specs.Tests.{and, or, among}
 use Rattle.lexer.specs.internal.Kinds.{leftParen, at}
 use Rattle.lexer.proofs.Laws.Tests.{and-true, or-false}
-use Rattle.parser.specs.Steps.{kindsAt}
+use Rattle.parser.specs.internal.Steps.{kindsAt}
 use Rattle.parser.proofs.Laws.Views.{kind-inside}
 use Rattle.parser.proofs.Laws.Kinds.{first-differs, one-among, none-among}
 use Rattle.parser.proofs.Laws.Questions.{refused-no, closureKinds, closure-opens}

@@ -3,7 +3,7 @@ use mathlib.Core.Path.{_∙_, sym}
 use borrow.Author.Tests.{ne-eqb}
 use borrow.Author.Needs.{needs}
 use Rattle.lexer.specs.Tests.{and}
-use Rattle.parser.specs.Readings.{namesIn}
+use Rattle.parser.specs.internal.Readings.{namesIn}
 use Rattle.parser.proofs.Laws.Questions.{refused-no, plain-next, plain-named}
 use Rattle.parser.proofs.questions.plain_name.Statement.{statement}
 use Rattle.parser.proofs.questions.plain_name.Tie as tie
@@ -23,7 +23,7 @@ returns c =
     let step = c .before .before .before .before .step in
     let kind-at = c .before .before .kind-at in
     let if1 = c .before .if1 in
-    let e = namesIn (args .source .now) (args .names .now) (args .tokens .now) (args .scope) in
+    let e = namesIn (args .source .now) (args .prepared .now) (args .tokens .now) (args .scope) in
     plain-named (args .tokens .now) (args .step) (step .given .0 .0) _ (step .given .1) (args .source .now) e _
     (sym (kind-at .ensures) ∙ if1 .taken) (c .is-type-name .ensures)
 
@@ -36,7 +36,7 @@ returns-2 c =
     let args = c .before .before .before .before .before .before .before .before .args in
     let step = c .before .before .before .step in
     let kind-at = c .before .kind-at in
-    let e = namesIn (args .source .now) (args .names .now) (args .tokens .now) (args .scope) in
+    let e = namesIn (args .source .now) (args .prepared .now) (args .tokens .now) (args .scope) in
     let asks = plain-next (args .tokens .now) (args .step) (step .given .0 .0) _ (step .given .1) (args .source .now) e in
     rw (asks, ← kind-at .ensures, ne-eqb _ _ (c .if1 .left))
 

@@ -5,7 +5,7 @@ use borrow.Author.Tests.{eq-eqb, ne-eqb}
 use borrow.Author.Needs.{needs}
 use Rattle.lexer.specs.Tests.{and}
 use Rattle.lexer.proofs.Laws.Tests.{and-true}
-use Rattle.parser.specs.Steps.{kindsAt}
+use Rattle.parser.specs.internal.Steps.{kindsAt}
 use Rattle.parser.proofs.Laws.Views.{kind-inside}
 use Rattle.parser.proofs.Laws.Questions.{refused-no, two-names}
 use Rattle.parser.proofs.questions.two_names.Statement.{statement}

@@ -2,7 +2,7 @@
 use mathlib.Core.Path.{refl, sym}
 use native.Mathlib.Omega.{arith}
 use borrow.Author.Needs.{needs}
-use Rattle.parser.specs.Steps.{closed}
+use Rattle.parser.specs.internal.Steps.{closed}
 use Rattle.parser.proofs.Laws.Steps.{small-read, spans-read}
 use Rattle.parser.proofs.steps.close_row.Statement.{statement}
 use Rattle.parser.proofs.steps.close_row.Tie as tie

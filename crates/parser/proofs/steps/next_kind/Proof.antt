@@ -1,6 +1,6 @@
 -- `parser::steps::next_kind` meets its contract. Assumes nothing.
 use borrow.Author.Needs.{needs}
-use Rattle.parser.specs.Steps.{nextKind}
+use Rattle.parser.specs.internal.Steps.{nextKind}
 use Rattle.parser.proofs.steps.next_kind.Statement.{statement}
 use Rattle.parser.proofs.steps.next_kind.Tie as tie
 

@@ -1,7 +1,7 @@
 -- `parser::steps::open_row` meets its contract. Assumes nothing.
 use native.Mathlib.Omega.{arith}
 use borrow.Author.Needs.{needs}
-use Rattle.parser.specs.Steps.{opened}
+use Rattle.parser.specs.internal.Steps.{opened}
 use Rattle.parser.proofs.Laws.Steps.{small-read}
 use Rattle.parser.proofs.steps.open_row.Statement.{statement}
 use Rattle.parser.proofs.steps.open_row.Tie as tie

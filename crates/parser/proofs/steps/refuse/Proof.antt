@@ -1,6 +1,6 @@
 -- `parser::steps::refuse` meets its contract. Assumes nothing.
 use borrow.Author.Needs.{needs}
-use Rattle.parser.specs.Steps.{refusedAt}
+use Rattle.parser.specs.internal.Steps.{refusedAt}
 use Rattle.parser.proofs.steps.refuse.Statement.{statement}
 use Rattle.parser.proofs.steps.refuse.Tie as tie
 

@@ -1,7 +1,7 @@
 -- `parser::steps::reserve_row` meets its contract. Assumes nothing.
 use native.Mathlib.Omega.{arith}
 use borrow.Author.Needs.{needs}
-use Rattle.parser.specs.Steps.{reserved}
+use Rattle.parser.specs.internal.Steps.{rowLeft}
 use Rattle.parser.proofs.Laws.Steps.{small-read}
 use Rattle.parser.proofs.steps.reserve_row.Statement.{statement}
 use Rattle.parser.proofs.steps.reserve_row.Tie as tie
@@ -20,11 +20,11 @@ enum-known-step-2 : tie.Need-enum-known-step-2
 enum-known-step-2 c = search needs
 
 returns : tie.Need-returns
-unfolding reserved
+unfolding rowLeft
 returns c = rw (c .before .step .given .1)
 
 returns-2 : tie.Need-returns-2
-unfolding reserved
+unfolding rowLeft
 returns-2 c = rw (c .before .step2 .given .1)
 
 pub reserve-row-spec : {M : Type 1} → statement M

@@ -2,7 +2,7 @@
 use native.Mathlib.Omega.{arith}
 use borrow.Author.Tests.{eq-eqb, ne-eqb}
 use borrow.Author.Needs.{needs}
-use Rattle.parser.specs.Steps.{takenIf}
+use Rattle.parser.specs.internal.Steps.{takenIf}
 use Rattle.parser.proofs.Laws.Steps.{small-read}
 use Rattle.parser.proofs.steps.take_if.Statement.{statement}
 use Rattle.parser.proofs.steps.take_if.Tie as tie

@@ -1,6 +1,6 @@
 -- `parser::types::begins_type` meets its contract. Assumes nothing.
 use borrow.Author.Needs.{needs}
-use Rattle.parser.specs.Steps.{begins}
+use Rattle.parser.specs.internal.Steps.{beginsPart}
 use Rattle.parser.proofs.types.begins_type.Statement.{statement}
 use Rattle.parser.proofs.types.begins_type.Tie as tie
 
@@ -11,7 +11,7 @@ type-alternative-requires : tie.Need-type-alternative-requires
 type-alternative-requires c κs = search needs
 
 returns : tie.Need-returns
-unfolding begins
+unfolding beginsPart
 returns c =
     let next-kind = c .before .next-kind in
     rw (c .type-alternative .ensures, next-kind .ensures)

@@ -3,8 +3,9 @@ use Prim.Native.Nat.{ℕ}
 use mathlib.Core.Path.{_≡_, refl, _∙_, sym}
 use mathlib.Core.List.{List, [], _∷_}
 use lib.ListN.{length}
-use Rattle.lexer.specs.Table.{tokenRoom, rowsOf}
-use Rattle.grammar.specs.Grammars.{part, noRow, Names}
+use Rattle.lexer.specs.Table.{tokenRoom}
+use Rattle.lexer.specs.internal.TokenRows.{rowsOf}
+use Rattle.grammar.specs.Grammars.{derived, noRow, Names}
 use Rattle.grammar.specs.internal.Nonterminals.{type, parameters as parameterList}
 use Rattle.grammar.specs.Nurl.{productions}
 use Rattle.grammar.specs.Languages.{language17}
@@ -14,15 +15,15 @@ use Rattle.parser.proofs.Laws.Views.{names-fixed}
 use Rattle.parser.proofs.Laws.Loops.{ahead, reads-falls, begins-kind}
 use Rattle.parser.proofs.Laws.Openings.{no-type}
 use Rattle.parser.proofs.Laws.Parameters.{parameters-go, parameters-end}
-use borrow.Author.Needs.{needs}
 use Rattle.parser.proofs.types.parameters.Statement.{statement}
 use Rattle.parser.proofs.types.parameters.Tie as tie
+use borrow.Author.Needs.{needs}
 
 abbrev Inv-loop : tie.InvT-loop
 Inv-loop tokens rows₀ left step₀ rows step =
     (length rows ≡ length rows₀) × ((source : List ℕ) (e : Names) →
-    After productions (viewOf language17 source (rowsOf tokens)) (tokenRoom tokens) e left left noRow 0 0 (part parameterList ∷ [])
-    (part parameterList ∷ []) step₀ rows₀ step rows)
+    After productions (viewOf language17 source (rowsOf tokens)) (tokenRoom tokens) e left left noRow 0 0 (derived parameterList ∷ [])
+    (derived parameterList ∷ []) step₀ rows₀ step rows)
 
 abbrev μ-loop : tie.MeasureT-loop
 μ-loop tokens rows₀ left step₀ rows step = ahead tokens step

@@ -6,10 +6,10 @@ use Rattle.parser.proofs.Laws.After.{reads-within, within-small, within
 use Rattle.parser.proofs.Laws.Views.{names-fixed}
 use Rattle.parser.proofs.Laws.Readers.{level-below, within-word, closing, closed-by}
 use Rattle.parser.proofs.Laws.Lists.{list-within, list-read, list-deep}
-use native.Mathlib.Omega.{arith}
-use borrow.Author.Needs.{needs}
 use Rattle.parser.proofs.words.list.Statement.{statement}
 use Rattle.parser.proofs.words.list.Tie as tie
+use native.Mathlib.Omega.{arith}
+use borrow.Author.Needs.{needs}
 
 refuse-requires : tie.Need-refuse-requires
 refuse-requires c κs = search needs

@@ -1,7 +1,8 @@
 use Prim.Native.Nat.{ℕ}
 use mathlib.Core.List.{List, [], _∷_}
-use Rattle.lexer.specs.Table.{tokenRoom, rowsOf}
-use Rattle.grammar.specs.Grammars.{part, noRow, Names}
+use Rattle.lexer.specs.Table.{tokenRoom}
+use Rattle.lexer.specs.internal.TokenRows.{rowsOf}
+use Rattle.grammar.specs.Grammars.{derived, noRow, Names}
 use Rattle.grammar.specs.Nurl.{productions}
 use Rattle.grammar.specs.Languages.{language17}
 use Rattle.grammar.specs.Sources.{viewOf}
@@ -9,15 +10,15 @@ use Rattle.parser.proofs.Laws.After.{After, start, done, after-within, 
 use Rattle.parser.proofs.Laws.Views.{names-fixed}
 use Rattle.parser.proofs.Laws.Words.{moreOf, words-more, words-done}
 use Rattle.parser.proofs.Laws.Loops.{ahead, word-falls}
-use borrow.Author.Needs.{needs}
-use native.Mathlib.Omega.{arith}
 use Rattle.parser.proofs.words.more_words.Statement.{statement}
 use Rattle.parser.proofs.words.more_words.Tie as tie
+use borrow.Author.Needs.{needs}
+use native.Mathlib.Omega.{arith}
 
 abbrev Inv-loop : tie.InvT-loop
 Inv-loop tokens keywords step₀ step =
     (n : ℕ) (table source : List ℕ) (e : Names) → After productions (viewOf language17 source (rowsOf tokens)) (tokenRoom tokens) e n n
-    noRow 0 0 (part (moreOf keywords) ∷ []) (part (moreOf keywords) ∷ []) step₀ table step table
+    noRow 0 0 (derived (moreOf keywords) ∷ []) (derived (moreOf keywords) ∷ []) step₀ table step table
 
 abbrev μ-loop : tie.MeasureT-loop
 μ-loop tokens keywords step₀ step = ahead tokens step

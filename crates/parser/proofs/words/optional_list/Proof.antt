@@ -1,9 +1,9 @@
 -- `parser::words::optional_list` meets its contract. Assumes nothing.
 use mathlib.Core.Path.{_∙_, sym}
 use Rattle.parser.proofs.Laws.Lists.{optional-some, optional-none}
-use borrow.Author.Needs.{needs}
 use Rattle.parser.proofs.words.optional_list.Statement.{statement}
 use Rattle.parser.proofs.words.optional_list.Tie as tie
+use borrow.Author.Needs.{needs}
 
 opens-list-requires : tie.Need-opens-list-requires
 opens-list-requires c κs = search needs

@@ -1,7 +1,7 @@
 -- `parser::words::take_word` meets its contract. Assumes nothing.
 use native.Mathlib.Omega.{arith}
 use borrow.Author.Needs.{needs}
-use Rattle.parser.specs.Steps.{takenBy}
+use Rattle.parser.specs.internal.Steps.{takenBy}
 use Rattle.parser.proofs.Laws.Steps.{small-read}
 use Rattle.parser.proofs.words.take_word.Statement.{statement}
 use Rattle.parser.proofs.words.take_word.Tie as tie

@@ -8,10 +8,11 @@ use native.Mathlib.Omega.{arith}
 use lib.ListN.{drop}
 use borrow.Author.Needs.{needs}
 use Rattle.lexer.specs.Tests.{among}
-use Rattle.lexer.specs.Table.{tokenRoom, rowsOf, kindAt}
-use Rattle.typenames.specs.TypeNames.{items}
+use Rattle.lexer.specs.Table.{tokenRoom}
+use Rattle.lexer.specs.internal.TokenRows.{rowsOf, kindAt}
+use Rattle.lexer.specs.Items.{items}
 use Rattle.grammar.specs.Questions.{runOf}
-use Rattle.parser.specs.Steps.{wordKinds}
+use Rattle.parser.specs.internal.Steps.{wordKinds}
 use Rattle.parser.proofs.Laws.Kinds.{word-inside}
 use Rattle.parser.proofs.Laws.Questions.{words-go-on, words-stop}
 use Rattle.parser.proofs.words.words_end.Statement.{statement}

@@ -1,11 +1,11 @@
 -- `replies::reply::answer` meets its contract. Assumes nothing.
 use mathlib.Core.Path.{refl, ap}
 use borrow.Author.Tests.{lt-ltb, le-ltb}
-use Rattle.grammar.specs.Answers.{Result}
+use Rattle.answer.specs.Answers.{Result}
 use Rattle.replies.specs.Desk.{deskResult}
-use borrow.Author.Needs.{needs}
 use Rattle.replies.proofs.reply.answer.Statement.{statement}
 use Rattle.replies.proofs.reply.answer.Tie as tie
+use borrow.Author.Needs.{needs}
 
 returns : tie.Need-returns
 unfolding deskResult

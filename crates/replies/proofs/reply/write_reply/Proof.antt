@@ -3,9 +3,9 @@ use mathlib.Core.Path.{_≡_, _∙_}
 use lib.ListN.{length}
 use Rattle.replies.specs.Desk.{deskText, textRoom}
 use Rattle.replies.proofs.Laws.Sizes.{reply-text, reply-fits, whole-text}
-use borrow.Author.Needs.{needs}
 use Rattle.replies.proofs.reply.write_reply.Statement.{statement}
 use Rattle.replies.proofs.reply.write_reply.Tie as tie
+use borrow.Author.Needs.{needs}
 
 token-table-requires : tie.Need-token-table-requires
 token-table-requires c κs = search needs

@@ -1,10 +1,10 @@
 -- `replies::script::after_call` meets its contract. Assumes nothing.
 use native.Mathlib.Omega.{arith}
-use Rattle.replies.specs.Input.{afterCall}
+use Rattle.replies.specs.internal.Input.{afterCall}
 use Rattle.replies.proofs.Laws.Calls.{tried-again}
-use borrow.Author.Needs.{needs}
 use Rattle.replies.proofs.script.after_call.Statement.{statement}
 use Rattle.replies.proofs.script.after_call.Tie as tie
+use borrow.Author.Needs.{needs}
 
 enum-known-outcome : tie.Need-enum-known-outcome
 enum-known-outcome c = search needs

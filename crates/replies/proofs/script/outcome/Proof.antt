@@ -6,7 +6,7 @@ use lib.IntN.{ℤ}
 use mir.Syntax.{w64}
 use mir.Val.{toZ, ofZ}
 use mir.Facts.{toZ-ofZ}
-use Rattle.replies.specs.Input.{outcomeOf}
+use Rattle.replies.specs.internal.Input.{outcomeOf}
 use Rattle.replies.proofs.Laws.Calls.{failed-call, ended-call, got-call}
 use Rattle.replies.proofs.script.outcome.Statement.{statement}
 use Rattle.replies.proofs.script.outcome.Tie as tie

@@ -5,9 +5,9 @@ use native.Mathlib.Omega.{arith}
 use lib.ListN.{length, length-append, length-take, length-drop}
 use Rattle.replies.specs.declared.Progress.the-variants.{Done}
 use Rattle.replies.proofs.Laws.Calls.{goes-on, comes-to}
-use borrow.Author.Needs.{needs}
 use Rattle.replies.proofs.script.read_script.Statement.{statement}
 use Rattle.replies.proofs.script.read_script.Tie as tie
+use borrow.Author.Needs.{needs}
 
 abbrev Inv-loop : tie.InvT-loop
 Inv-loop input buffer₀ done₀ retries₀ buffer done retries = (length buffer ≡ length buffer₀) × (done ≤ length buffer)

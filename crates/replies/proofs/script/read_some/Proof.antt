@@ -2,9 +2,9 @@
 use mathlib.Core.Path.{sym, _∙_}
 use native.Mathlib.Omega.{arith}
 use Rattle.replies.proofs.Laws.Calls.{got-counted}
-use borrow.Author.Needs.{needs}
 use Rattle.replies.proofs.script.read_some.Statement.{statement}
 use Rattle.replies.proofs.script.read_some.Tie as tie
+use borrow.Author.Needs.{needs}
 
 read-requires : tie.Need-read-requires
 read-requires c κs = search needs

@@ -3,9 +3,9 @@ use mathlib.Core.Path.{sym}
 use native.Mathlib.Omega.{arith}
 use lib.Seq.{length-take-le}
 use Rattle.replies.proofs.Laws.Sizes.{size-inside}
-use borrow.Author.Needs.{needs}
 use Rattle.replies.proofs.service.serve.Statement.{statement}
 use Rattle.replies.proofs.service.serve.Tie as tie
+use borrow.Author.Needs.{needs}
 
 script-buffer-requires : tie.Need-script-buffer-requires
 script-buffer-requires c κs = search needs

@@ -1,9 +1,9 @@
 -- `typenames::compare::read_at` meets its contract. Assumes nothing.
 use mathlib.Core.Path.{_∙_, sym}
 use Rattle.lexer.specs.Tests.{or}
-use borrow.Author.Needs.{needs}
 use Rattle.typenames.proofs.compare.read_at.Statement.{statement}
 use Rattle.typenames.proofs.compare.read_at.Tie as tie
+use borrow.Author.Needs.{needs}
 
 returns : tie.Need-returns
 unfolding or

@@ -3,10 +3,10 @@ use Prim.Native.Nat.{_≤_, _-_}
 use mathlib.Core.Path.{_∙_, sym}
 use lib.ListN.{length}
 use Rattle.typenames.proofs.Laws.Compared.{Left, lengths-differ, left-whole, left-none, left-differ, left-agree}
-use borrow.Author.Needs.{needs}
-use native.Mathlib.Omega.{arith}
 use Rattle.typenames.proofs.compare.same_name.Statement.{statement}
 use Rattle.typenames.proofs.compare.same_name.Tie as tie
+use borrow.Author.Needs.{needs}
+use native.Mathlib.Omega.{arith}
 
 abbrev Inv-loop : tie.InvT-loop
 Inv-loop a b inside-a₀ inside-b₀ at₀ inside-a inside-b at = (at ≤ length a) × Left a b at inside-a inside-b

@@ -2,10 +2,10 @@
 use native.Mathlib.Numerals.{add-one}
 use borrow.Author.Tests.{eq-eqb, ne-eqb}
 use Rattle.typenames.specs.TypeNames.{deeper}
-use native.Mathlib.Omega.{arith}
-use borrow.Author.Needs.{needs}
 use Rattle.typenames.proofs.declarations.depth_after.Statement.{statement}
 use Rattle.typenames.proofs.declarations.depth_after.Tie as tie
+use native.Mathlib.Omega.{arith}
+use borrow.Author.Needs.{needs}
 
 add-result : tie.Need-add-result
 add-result c = search needs

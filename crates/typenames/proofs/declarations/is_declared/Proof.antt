@@ -3,15 +3,16 @@
 use Prim.Native.Nat.{zero, _-_}
 use mathlib.Core.Path.{_≡_, _∙_, sym}
 use Rattle.lexer.specs.Words.{sameName}
-use Rattle.lexer.specs.Table.{rowsOf}
-use Rattle.typenames.specs.TypeNames.{itemAt, items, isNamed, declared, opening17}
-use Rattle.typenames.specs.Declarations.{namesAtRow}
+use Rattle.lexer.specs.internal.TokenRows.{rowsOf, itemAt}
+use Rattle.typenames.specs.TypeNames.{isNamed, declared, opening17}
+use Rattle.lexer.specs.Items.{items}
+use Rattle.typenames.specs.internal.Declarations.{namesAtRow}
 use Rattle.typenames.proofs.Laws.Declared.{from-first}
 use Rattle.typenames.proofs.Laws.Named.{declared-none, declared-here, declared-later}
-use borrow.Author.Needs.{needs}
-use native.Mathlib.Omega.{arith}
 use Rattle.typenames.proofs.declarations.is_declared.Statement.{statement}
 use Rattle.typenames.proofs.declarations.is_declared.Tie as tie
+use borrow.Author.Needs.{needs}
+use native.Mathlib.Omega.{arith}
 
 abbrev Inv-loop : tie.InvT-loop
 Inv-loop source tokens word rows row₀ row =

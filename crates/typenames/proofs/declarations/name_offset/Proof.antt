@@ -1,10 +1,10 @@
 -- `typenames::declarations::name_offset` meets its contract. Assumes nothing.
 use borrow.Author.Tests.{eq-eqb, ne-eqb}
 use Rattle.lexer.specs.Tests.{and}
-use Rattle.typenames.specs.Declarations.{nameOffset}
-use borrow.Author.Needs.{needs}
+use Rattle.typenames.specs.internal.Declarations.{nameOffset}
 use Rattle.typenames.proofs.declarations.name_offset.Statement.{statement}
 use Rattle.typenames.proofs.declarations.name_offset.Tie as tie
+use borrow.Author.Needs.{needs}
 
 returns : tie.Need-returns
 unfolding nameOffset and

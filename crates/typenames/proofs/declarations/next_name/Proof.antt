@@ -1,13 +1,14 @@
 -- `typenames::declarations::next_name` meets its contract: no name is declared before the row reached. Assumes nothing.
 use Prim.Native.Nat.{_≤_, _+_, _-_}
 use mathlib.Core.Path.{_≡_, _∙_}
-use Rattle.lexer.specs.Table.{kindAt}
+use Rattle.lexer.specs.internal.TokenRows.{kindAt}
 use Rattle.typenames.specs.TypeNames.{opening17}
-use Rattle.typenames.proofs.Laws.Declared.{Reached, offsetAt, offset-le, deeper-le, reached-start, reached-on, next-found, next-none}
-use borrow.Author.Needs.{needs}
-use native.Mathlib.Omega.{arith}
+use Rattle.typenames.proofs.Laws.Declared.{Reached, offsetAt, offset-le, deeper-le, reached-start, reached-on, next-found}
+use Rattle.typenames.proofs.Laws.Declared.{next-none}
 use Rattle.typenames.proofs.declarations.next_name.Statement.{statement}
 use Rattle.typenames.proofs.declarations.next_name.Tie as tie
+use borrow.Author.Needs.{needs}
+use native.Mathlib.Omega.{arith}
 
 abbrev Inv-loop : tie.InvT-loop
 Inv-loop tokens from rows at₀ depth₀ at depth = (from ≤ at) × (depth ≤ at) × (at ≤ rows) × Reached opening17 tokens from at depth

@@ -2,10 +2,10 @@
 use mathlib.Core.Path.{_∙_, sym}
 use borrow.Author.Tests.{eq-eqb, ne-eqb}
 use Rattle.lexer.specs.Tests.{and}
-use Rattle.typenames.specs.Declarations.{offsetAfter}
-use borrow.Author.Needs.{needs}
+use Rattle.typenames.specs.internal.Declarations.{offsetAfter}
 use Rattle.typenames.proofs.declarations.offset_after.Statement.{statement}
 use Rattle.typenames.proofs.declarations.offset_after.Tie as tie
+use borrow.Author.Needs.{needs}
 
 opens-requires : tie.Need-opens-requires
 opens-requires c κs = search needs

@@ -1,6 +1,6 @@
 -- `typenames::filter::folded_byte` meets its contract. Assumes nothing.
 use borrow.Author.Tests.{eq-eqb, ne-eqb}
-use Rattle.typenames.specs.Prepared.{folded}
+use Rattle.typenames.specs.internal.Prepared.{folded}
 use Rattle.typenames.proofs.filter.folded_byte.Statement.{statement}
 use Rattle.typenames.proofs.filter.folded_byte.Tie as tie
 

@@ -3,11 +3,11 @@ use Prim.Native.Nat.{_-_}
 use lib.ListN.{length, drop, length-drop}
 use lib.Seq.{take-all, take-nil}
 use Rattle.lexer.proofs.Laws.Fronts.{front-none}
-use Rattle.typenames.specs.Prepared.{slots}
-use native.Mathlib.Omega.{arith}
-use borrow.Author.Needs.{needs}
+use Rattle.typenames.specs.internal.Prepared.{slots}
 use Rattle.typenames.proofs.filter.list_after.Statement.{statement}
 use Rattle.typenames.proofs.filter.list_after.Tie as tie
+use native.Mathlib.Omega.{arith}
+use borrow.Author.Needs.{needs}
 
 sub-result : tie.Need-sub-result
 sub-result c = search needs

@@ -1,9 +1,9 @@
 -- `typenames::filter::mark` meets its contract. Assumes nothing.
-use Rattle.typenames.specs.Prepared.{marked}
-use Rattle.typenames.proofs.Laws.Marks.{slot-inside}
-use borrow.Author.Needs.{needs}
+use Rattle.typenames.specs.internal.Prepared.{marked}
+use Rattle.typenames.proofs.Laws.Marked.{slot-inside}
 use Rattle.typenames.proofs.filter.mark.Statement.{statement}
 use Rattle.typenames.proofs.filter.mark.Tie as tie
+use borrow.Author.Needs.{needs}
 
 slot-of-requires : tie.Need-slot-of-requires
 slot-of-requires c κs = search needs

@@ -1,9 +1,9 @@
 -- `typenames::filter::may_be_named` meets its contract. Assumes nothing.
 use lib.ListN.{List·getD-eq-default}
-use Rattle.typenames.specs.Prepared.{passes}
-use borrow.Author.Needs.{needs}
+use Rattle.typenames.specs.internal.Prepared.{passes}
 use Rattle.typenames.proofs.filter.may_be_named.Statement.{statement}
 use Rattle.typenames.proofs.filter.may_be_named.Tie as tie
+use borrow.Author.Needs.{needs}
 
 slot-of-requires : tie.Need-slot-of-requires
 slot-of-requires c κs = search needs

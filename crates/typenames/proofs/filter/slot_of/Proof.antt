@@ -3,21 +3,21 @@
 use Prim.Native.Nat.{_≤_, _<_, _-_}
 use mathlib.Core.Path.{_≡_, _∙_, sym, refl}
 use lib.ListN.{length, drop}
-use Rattle.typenames.specs.Prepared.{slots, hashFrom, hash}
+use Rattle.typenames.specs.internal.Prepared.{slots, hashFrom, slotOf}
 use Rattle.typenames.proofs.Laws.Slots.{hash-more, hash-end}
-use borrow.Author.Needs.{needs}
-use native.Mathlib.Omega.{arith}
 use Rattle.typenames.proofs.filter.slot_of.Statement.{statement}
 use Rattle.typenames.proofs.filter.slot_of.Tie as tie
+use borrow.Author.Needs.{needs}
+use native.Mathlib.Omega.{arith}
 
 abbrev Inv-loop : tie.InvT-loop
-Inv-loop word slot₀ at₀ slot at = (slot < slots) × (at ≤ length word) × (hash word ≡ hashFrom slot (drop at word))
+Inv-loop word slot₀ at₀ slot at = (slot < slots) × (at ≤ length word) × (slotOf word ≡ hashFrom slot (drop at word))
 
 abbrev μ-loop : tie.MeasureT-loop
 μ-loop word slot₀ at₀ slot at = length word - at
 
 loop-holds : tie.Need-loop-holds Inv-loop μ-loop
-unfolding hash
+unfolding slotOf
 loop-holds c = (omega arith, omega arith, refl)
 
 mul-slot : tie.Need-mul-slot Inv-loop μ-loop

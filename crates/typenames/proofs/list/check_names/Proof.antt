@@ -7,12 +7,13 @@ use lib.ListN.{length, drop}
 use borrow.Author.Tests.{lt-ltb, le-ltb, not-true, not-false}
 use Rattle.lexer.specs.Editions.{edition17}
 use Rattle.lexer.proofs.Laws.Answers.{valued}
-use Rattle.typenames.specs.NameList.{nameLimit, split, entries, isName, firstBad, checkedValues, checked}
+use Rattle.typenames.specs.NameList.{nameLimit, split, entries, isName, firstBad, checked}
+use Rattle.typenames.specs.internal.Checks.{checkedValues}
 use Rattle.typenames.proofs.Laws.Entries.{entries-some, entries-none, line-inside, entryHere, bad-here, good-last, good-here}
-use borrow.Author.Needs.{needs}
-use native.Mathlib.Omega.{arith}
 use Rattle.typenames.proofs.list.check_names.Statement.{statement}
 use Rattle.typenames.proofs.list.check_names.Tie as tie
+use borrow.Author.Needs.{needs}
+use native.Mathlib.Omega.{arith}
 
 abbrev Inv-loop : tie.InvT-loop
 Inv-loop list at₀ at =

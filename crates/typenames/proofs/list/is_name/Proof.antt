@@ -2,9 +2,9 @@
 use borrow.Author.Tests.{eq-eqb, ne-eqb}
 use Rattle.lexer.specs.Tests.{and}
 use Rattle.typenames.specs.NameList.{isIdent, isName}
-use borrow.Author.Needs.{needs}
 use Rattle.typenames.proofs.list.is_name.Statement.{statement}
 use Rattle.typenames.proofs.list.is_name.Tie as tie
+use borrow.Author.Needs.{needs}
 
 lexeme-at-requires : tie.Need-lexeme-at-requires
 lexeme-at-requires c κs = search needs

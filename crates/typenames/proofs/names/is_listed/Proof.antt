@@ -8,10 +8,10 @@ use Rattle.typenames.specs.NameList.{split, entries}
 use Rattle.typenames.specs.TypeNames.{isNamed}
 use Rattle.typenames.proofs.Laws.Entries.{entries-some, line-inside, entryHere}
 use Rattle.typenames.proofs.Laws.Named.{listed-none, listed-here, listed-last, listed-later}
-use borrow.Author.Needs.{needs}
-use native.Mathlib.Omega.{arith}
 use Rattle.typenames.proofs.names.is_listed.Statement.{statement}
 use Rattle.typenames.proofs.names.is_listed.Tie as tie
+use borrow.Author.Needs.{needs}
+use native.Mathlib.Omega.{arith}
 
 abbrev Inv-loop : tie.InvT-loop
 Inv-loop names word at₀ at = (at ≤ length names) × (isNamed (entries names) word ≡ isNamed (split (drop at names)) word)

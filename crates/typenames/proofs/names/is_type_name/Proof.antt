@@ -3,9 +3,9 @@ use mathlib.Core.Path.{_∙_, sym}
 use borrow.Author.Tests.{not-true, not-false}
 use Rattle.lexer.specs.Tests.{or}
 use Rattle.typenames.proofs.Laws.Prepared.{refused, passed}
-use borrow.Author.Needs.{needs}
 use Rattle.typenames.proofs.names.is_type_name.Statement.{statement}
 use Rattle.typenames.proofs.names.is_type_name.Tie as tie
+use borrow.Author.Needs.{needs}
 
 text-at-requires : tie.Need-text-at-requires
 text-at-requires c κs = search needs
@@ -19,7 +19,7 @@ returns c =
     let text-at = c .before .before .text-at in
     let args = c .before .before .before .before .before .before .args in
     let out = sym (may-be-named .ensures) ∙ not-true _ (c .if1 .taken) in
-    rw (← text-at .ensures) (sym (refused _ (args .names .now) _ _ (args .scope) out))
+    rw (← text-at .ensures) (sym (refused _ (args .prepared .now) _ _ (args .scope) out))
 
 list-after-requires : tie.Need-list-after-requires
 list-after-requires c κs = search needs
@@ -38,7 +38,7 @@ returns-2 c =
     let is-listed = c .before .is-listed in
     let pass = sym (may-be-named .ensures) ∙ not-false _ (if1 .left) in
     let listed = sym (is-listed .ensures) ∙ c .if2 .taken in
-    rw (← text-at .ensures, passed _ (args .names .now) _ _ (args .scope) pass, ← list-after .ensures, listed)
+    rw (← text-at .ensures, passed _ (args .prepared .now) _ _ (args .scope) pass, ← list-after .ensures, listed)
 
 is-declared-requires : tie.Need-is-declared-requires
 is-declared-requires c κs = search needs
@@ -55,7 +55,7 @@ returns-3 c =
     let if2 = c .before .if2 in
     let pass = sym (may-be-named .ensures) ∙ not-false _ (if1 .left) in
     let unlisted = sym (is-listed .ensures) ∙ if2 .left in
-    rw (← text-at .ensures, passed _ (args .names .now) _ _ (args .scope) pass, ← list-after .ensures, unlisted)
+    rw (← text-at .ensures, passed _ (args .prepared .now) _ _ (args .scope) pass, ← list-after .ensures, unlisted)
     (c .is-declared .ensures)
 
 pub is-type-name-spec : {M : Type 1} → statement M

@@ -2,12 +2,12 @@
 use Prim.Native.Nat.{_≤_, _+_, _-_}
 use mathlib.Core.Path.{_≡_, refl}
 use lib.ListN.{length, take, drop, length-set}
-use Rattle.typenames.specs.Prepared.{slots}
+use Rattle.typenames.specs.internal.Prepared.{slots}
 use Rattle.typenames.proofs.Laws.Prepared.{copied-more, copied-all}
-use borrow.Author.Needs.{needs}
-use native.Mathlib.Omega.{arith}
 use Rattle.typenames.proofs.prepared.copy_list.Statement.{statement}
 use Rattle.typenames.proofs.prepared.copy_list.Tie as tie
+use borrow.Author.Needs.{needs}
+use native.Mathlib.Omega.{arith}
 
 abbrev Inv-loop : tie.InvT-loop
 Inv-loop names prepared₀ at₀ prepared at =

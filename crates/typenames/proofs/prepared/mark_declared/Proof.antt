@@ -3,16 +3,17 @@
 use Prim.Native.Nat.{zero, _-_}
 use mathlib.Core.Path.{_≡_, _∙_, sym}
 use lib.ListN.{length}
-use Rattle.lexer.specs.Table.{rowsOf}
-use Rattle.typenames.specs.TypeNames.{itemAt, items, declared, opening17}
-use Rattle.typenames.specs.Declarations.{namesAtRow}
-use Rattle.typenames.specs.Prepared.{marked, markedAll}
+use Rattle.lexer.specs.internal.TokenRows.{rowsOf, itemAt}
+use Rattle.typenames.specs.TypeNames.{declared, opening17}
+use Rattle.lexer.specs.Items.{items}
+use Rattle.typenames.specs.internal.Declarations.{namesAtRow}
+use Rattle.typenames.specs.internal.Prepared.{marked, markedAll}
 use Rattle.typenames.proofs.Laws.Declared.{from-first}
-use Rattle.typenames.proofs.Laws.Marks.{rows-none, rows-more}
-use borrow.Author.Needs.{needs}
-use native.Mathlib.Omega.{arith}
+use Rattle.typenames.proofs.Laws.Marked.{rows-none, rows-more}
 use Rattle.typenames.proofs.prepared.mark_declared.Statement.{statement}
 use Rattle.typenames.proofs.prepared.mark_declared.Tie as tie
+use borrow.Author.Needs.{needs}
+use native.Mathlib.Omega.{arith}
 
 abbrev Inv-loop : tie.InvT-loop
 Inv-loop source tokens prepared₀ rows row₀ prepared row =

@@ -5,13 +5,13 @@ use mathlib.Core.Path.{_≡_, _∙_, sym}
 use native.Mathlib.Nat.{add-sub-cancel-left}
 use lib.ListN.{length, drop}
 use Rattle.typenames.specs.NameList.{split, entries}
-use Rattle.typenames.specs.Prepared.{marked, markedAll}
+use Rattle.typenames.specs.internal.Prepared.{marked, markedAll}
 use Rattle.typenames.proofs.Laws.Entries.{entries-some, line-inside, entryHere}
-use Rattle.typenames.proofs.Laws.Marks.{list-none, list-last, list-more}
-use borrow.Author.Needs.{needs}
-use native.Mathlib.Omega.{arith}
+use Rattle.typenames.proofs.Laws.Marked.{list-none, list-last, list-more}
 use Rattle.typenames.proofs.prepared.mark_list.Statement.{statement}
 use Rattle.typenames.proofs.prepared.mark_list.Tie as tie
+use borrow.Author.Needs.{needs}
+use native.Mathlib.Omega.{arith}
 
 abbrev Inv-loop : tie.InvT-loop
 Inv-loop names prepared₀ at₀ prepared at =

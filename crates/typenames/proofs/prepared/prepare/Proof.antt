@@ -1,12 +1,13 @@
 -- `typenames::prepared::prepare` meets its contract: the list is copied, and its names and those of the source are marked.
 -- Assumes nothing.
-use Rattle.lexer.specs.Table.{rowsOf}
-use Rattle.typenames.specs.TypeNames.{items, opening17}
+use Rattle.lexer.specs.internal.TokenRows.{rowsOf}
+use Rattle.lexer.specs.Items.{items}
+use Rattle.typenames.specs.TypeNames.{opening17}
 use Rattle.typenames.proofs.Laws.Prepared.{all-prepared}
-use native.Mathlib.Omega.{arith}
-use borrow.Author.Needs.{needs}
 use Rattle.typenames.proofs.prepared.prepare.Statement.{statement}
 use Rattle.typenames.proofs.prepared.prepare.Tie as tie
+use native.Mathlib.Omega.{arith}
+use borrow.Author.Needs.{needs}
 
 copy-list-requires : tie.Need-copy-list-requires
 copy-list-requires c κs = search needs

@@ -3,14 +3,12 @@ use mathlib.Core.Path.{_∙_}
 use mathlib.Core.List.{[]}
 use Rattle.grammar.specs.internal.Nonterminals.{expression}
 use Rattle.grammar.specs.Nurl.{productions}
-use Rattle.parser.specs.Readings.{namesIn}
+use Rattle.parser.specs.internal.Readings.{namesIn}
 use Rattle.parser.proofs.Laws.After.{reads-within, within-small, within-wider}
 use Rattle.parser.proofs.Laws.Views.{names-fixed}
 use Rattle.parser.proofs.Laws.Readers.{level-below, opened-within, within-mark, closing, closed-by}
 use Rattle.parser.proofs.Laws.Openings.{no-expression}
 use Rattle.parser.proofs.Laws.Expressions.{aggregate}
-use Prim.Native.Nat.{ℕ}
-use native.Mathlib.Omega.{arith}
 use Rattle.parser.proofs.expressions.aggregate.Reads as aggregate
 use Rattle.parser.proofs.steps.open_row.Reads as open-row-reads
 use Rattle.parser.proofs.types.read_type.Reads as read-type-reads
@@ -19,6 +17,8 @@ use Rattle.parser.proofs.expressions.expressions.Reads as expressions
 use Rattle.parser.proofs.steps.close_row.Reads as close-row-reads
 use Rattle.parser.proofs.expressions.+aggregate+arm+arms+assignment+block+call+cast+defer+expression+expressions+let_statement+match_expression+operation+slice+statement+statements+tilde_statement+try_or_closure.Lts-aggregate as lts
 use Rattle.parser.proofs.expressions.+aggregate+arm+arms+assignment+block+call+cast+defer+expression+expressions+let_statement+match_expression+operation+slice+statement+statements+tilde_statement+try_or_closure.Proof.Given as given
+use Prim.Native.Nat.{ℕ}
+use native.Mathlib.Omega.{arith}
 
 abbrev cs : ℕ → lts.Claims
 cs t = (
@@ -88,7 +88,7 @@ take-requires-2 t c κs =
     let source = args .source .now in
     let tokens = args .tokens .now in
     let good = pre .1 .0 in
-    let e = namesIn source (args .names .now) tokens (args .scope) in
+    let e = namesIn source (args .prepared .now) tokens (args .scope) in
     within-small tokens (good .few) (omega arith)
     (reads-within productions _ tokens e (names-fixed source tokens good e) (expressions .ensures))
 
@@ -106,7 +106,7 @@ close-row-requires t c κs =
     let source = args .source .now in
     let tokens = args .tokens .now in
     let good = pre .1 .0 in
-    let e = namesIn source (args .names .now) tokens (args .scope) in
+    let e = namesIn source (args .prepared .now) tokens (args .scope) in
     closing productions _ tokens e (names-fixed source tokens good e) good (pre .1 .1 .0)
     (aggregate source tokens good e (pre .1 .1 .1 .1) (pre .1 .1 .0) (level-below (pre .1 .1 .1 .0)) (open-row .ensures)
     (read-type .ensures source e) (take .ensures) (expressions .ensures) (take2 .ensures))
@@ -134,7 +134,7 @@ returns t c =
     let source = args .source .now in
     let tokens = args .tokens .now in
     let good = pre .1 .0 in
-    let e = namesIn source (args .names .now) tokens (args .scope) in
+    let e = namesIn source (args .prepared .now) tokens (args .scope) in
     closed-by productions _ tokens e (names-fixed source tokens good e)
     (aggregate source tokens good e (pre .1 .1 .1 .1) (pre .1 .1 .0) (level-below (pre .1 .1 .1 .0)) (open-row .ensures)
     (read-type .ensures source e) (take .ensures) (expressions .ensures) (take2 .ensures)) (omega arith)

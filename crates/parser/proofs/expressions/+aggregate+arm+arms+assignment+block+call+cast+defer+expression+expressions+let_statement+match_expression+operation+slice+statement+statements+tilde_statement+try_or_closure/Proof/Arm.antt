@@ -4,15 +4,12 @@ use mathlib.Core.List.{[]}
 use native.Mathlib.Nat.{pos-of-ne-zero}
 use Rattle.lexer.specs.Tests.{or, among}
 use Rattle.grammar.specs.Nurl.{productions}
-use Rattle.parser.specs.Readings.{namesIn}
+use Rattle.parser.specs.internal.Readings.{namesIn}
 use Rattle.parser.proofs.Laws.After.{reads-within, within-small, within-wider}
 use Rattle.parser.proofs.Laws.Views.{names-fixed}
 use Rattle.parser.proofs.Laws.Readers.{level-below, within-mark, closing, closed-by}
 use Rattle.parser.proofs.Laws.Options.{opened-where}
 use Rattle.parser.proofs.Laws.Matches.{armKinds, arm-whole, arm-deep}
-use Prim.Native.Nat.{ℕ}
-use native.Mathlib.Omega.{arith}
-use borrow.Author.Needs.{needs}
 use Rattle.parser.proofs.expressions.arm.Reads as arm
 use Rattle.parser.proofs.steps.refuse.Reads as refuse-reads
 use Rattle.parser.proofs.steps.open_row.Reads as open-row-reads
@@ -22,6 +19,9 @@ use Rattle.parser.proofs.expressions.expression.Reads as expression
 use Rattle.parser.proofs.steps.close_row.Reads as close-row-reads
 use Rattle.parser.proofs.expressions.+aggregate+arm+arms+assignment+block+call+cast+defer+expression+expressions+let_statement+match_expression+operation+slice+statement+statements+tilde_statement+try_or_closure.Lts-arm as lts
 use Rattle.parser.proofs.expressions.+aggregate+arm+arms+assignment+block+call+cast+defer+expression+expressions+let_statement+match_expression+operation+slice+statement+statements+tilde_statement+try_or_closure.Proof.Given as given
+use Prim.Native.Nat.{ℕ}
+use native.Mathlib.Omega.{arith}
+use borrow.Author.Needs.{needs}
 
 abbrev cs : ℕ → lts.Claims
 cs t = (
@@ -49,7 +49,7 @@ returns t c =
     let if1 = c .before .if1 in
     let source = args .source .now in
     let tokens = args .tokens .now in
-    let e = namesIn source (args .names .now) tokens (args .scope) in
+    let e = namesIn source (args .prepared .now) tokens (args .scope) in
     rw (c .refuse .ensures) (arm-deep source tokens (pre .1 .0) e _ (pre .1 .1 .1) (if1 .taken))
 
 open-row-requires : (t : ℕ) → lts.Need-open-row-requires (cs t) (given.arm-at t) arm.Post
@@ -113,7 +113,7 @@ close-row-requires t c κs =
     let source = args .source .now in
     let tokens = args .tokens .now in
     let good = pre .1 .0 in
-    let e = namesIn source (args .names .now) tokens (args .scope) in
+    let e = namesIn source (args .prepared .now) tokens (args .scope) in
     closing productions _ tokens e (names-fixed source tokens good e) good (pre .1 .1 .0)
     (arm-whole source tokens good e (pre .1 .1 .1) (pre .1 .1 .0) (level-below (pos-of-ne-zero (if1 .left))) (open-row .ensures)
     (payloads .ensures source e) (take .ensures) (expression .ensures))
@@ -140,7 +140,7 @@ returns-2 t c =
     let source = args .source .now in
     let tokens = args .tokens .now in
     let good = pre .1 .0 in
-    let e = namesIn source (args .names .now) tokens (args .scope) in
+    let e = namesIn source (args .prepared .now) tokens (args .scope) in
     closed-by productions _ tokens e (names-fixed source tokens good e)
     (arm-whole source tokens good e (pre .1 .1 .1) (pre .1 .1 .0) (level-below (pos-of-ne-zero (if1 .left))) (open-row .ensures)
     (payloads .ensures source e) (take .ensures) (expression .ensures))

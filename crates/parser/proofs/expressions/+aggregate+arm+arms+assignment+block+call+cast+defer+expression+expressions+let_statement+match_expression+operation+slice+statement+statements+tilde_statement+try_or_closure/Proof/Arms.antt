@@ -4,27 +4,28 @@ use mathlib.Core.Bool.{true, false}
 use mathlib.Core.List.{[], _∷_}
 use lib.ListN.{length}
 use Rattle.lexer.specs.Tests.{among}
-use Rattle.lexer.specs.Table.{tokenRoom, rowsOf}
-use Rattle.grammar.specs.Grammars.{part, noRow}
+use Rattle.lexer.specs.Table.{tokenRoom}
+use Rattle.lexer.specs.internal.TokenRows.{rowsOf}
+use Rattle.grammar.specs.Grammars.{derived, noRow}
 use Rattle.grammar.specs.internal.Nonterminals.{arms as armList}
 use Rattle.grammar.specs.Nurl.{productions}
 use Rattle.grammar.specs.Languages.{language17}
 use Rattle.grammar.specs.Sources.{viewOf}
-use Rattle.parser.specs.Steps.{wordKinds}
-use Rattle.parser.specs.Readings.{namesIn}
+use Rattle.parser.specs.internal.Steps.{wordKinds}
+use Rattle.parser.specs.internal.Readings.{namesIn}
 use Rattle.parser.proofs.Laws.After.{After, start, after-within, within-wider}
 use Rattle.parser.proofs.Laws.Views.{names-fixed}
 use Rattle.parser.proofs.Laws.Kinds.{word-kind}
 use Rattle.parser.proofs.Laws.Loops.{ahead, reads-falls}
 use Rattle.parser.proofs.Laws.Matches.{armKinds, arms-go, arms-end}
-use Prim.Native.Nat.{ℕ, _<_}
-use native.Mathlib.Omega.{arith}
-use borrow.Author.Needs.{needs}
 use Rattle.parser.proofs.expressions.arms.Reads as arms
 use Rattle.parser.proofs.expressions.begins_arm.Reads as begins-arm-reads
 use Rattle.parser.proofs.expressions.arm.Reads as arm
 use Rattle.parser.proofs.expressions.+aggregate+arm+arms+assignment+block+call+cast+defer+expression+expressions+let_statement+match_expression+operation+slice+statement+statements+tilde_statement+try_or_closure.Lts-arms as lts
 use Rattle.parser.proofs.expressions.+aggregate+arm+arms+assignment+block+call+cast+defer+expression+expressions+let_statement+match_expression+operation+slice+statement+statements+tilde_statement+try_or_closure.Proof.Given as given
+use Prim.Native.Nat.{ℕ, _<_}
+use native.Mathlib.Omega.{arith}
+use borrow.Author.Needs.{needs}
 
 abbrev cs : ℕ → lts.Claims
 cs t = (begins-arm-reads.Asked, begins-arm-reads.Learnt, given.arm-below t, arm.Post)
@@ -35,12 +36,12 @@ unfolding wordKinds
 head-kind = word-kind false
 
 abbrev Inv-loop : lts.InvT-loop
-Inv-loop source names tokens rows₀ scope left step₀ rows step =
+Inv-loop source prepared tokens rows₀ scope left step₀ rows step =
     (length rows ≡ length rows₀) × (After productions (viewOf language17 source (rowsOf tokens)) (tokenRoom tokens)
-    (namesIn source names tokens scope) left left noRow 0 0 (part armList ∷ []) (part armList ∷ []) step₀ rows₀ step rows)
+    (namesIn source prepared tokens scope) left left noRow 0 0 (derived armList ∷ []) (derived armList ∷ []) step₀ rows₀ step rows)
 
 abbrev μ-loop : lts.MeasureT-loop
-μ-loop source names tokens rows₀ scope left step₀ rows step = ahead tokens step
+μ-loop source prepared tokens rows₀ scope left step₀ rows step = ahead tokens step
 
 loop-holds : (t : ℕ) → lts.Need-loop-holds (cs t) (given.arms-at t) arms.Post Inv-loop μ-loop
 loop-holds t c =
@@ -48,7 +49,7 @@ loop-holds t c =
     let pre = c .before .before .before .before .pre in
     let source = args .source .now in
     let tokens = args .tokens .now in
-    let e = namesIn source (args .names .now) tokens (args .scope) in
+    let e = namesIn source (args .prepared .now) tokens (args .scope) in
     (refl, start productions _ tokens e (names-fixed source tokens (pre .1 .0) e) (pre .1 .1))
 
 begins-arm-requires : (t : ℕ) → lts.Need-begins-arm-requires (cs t) (given.arms-at t) arms.Post Inv-loop μ-loop
@@ -64,7 +65,7 @@ arm-requires t c κs =
     let source = args .source .now in
     let tokens = args .tokens .now in
     let good = pre .1 .0 in
-    let e = namesIn source (args .names .now) tokens (args .scope) in
+    let e = namesIn source (args .prepared .now) tokens (args .scope) in
     let reached = after-within productions _ tokens e (names-fixed source tokens good e) (loop .inv .1) in
     (omega (arith, pre .0), (good, (within-wider tokens reached (omega arith), sym (begins-arm .ensures) ∙ if1 .taken)))
 
@@ -85,7 +86,7 @@ loop-again t c =
     let if1 = c .before .before .before .before .if1 in
     let source = args .source .now in
     let tokens = args .tokens .now in
-    let e = namesIn source (args .names .now) tokens (args .scope) in (
+    let e = namesIn source (args .prepared .now) tokens (args .scope) in (
       arm .kept .1 .1 .1 .0 ∙ loop .inv .0,
       arms-go source tokens (pre .1 .0) e (loop .inv .1) (sym (begins-arm .ensures) ∙ if1 .taken) (arm .ensures),
     )
@@ -103,7 +104,7 @@ returns t c =
     let begins-arm = c .before .begins-arm in
     let source = args .source .now in
     let tokens = args .tokens .now in
-    let e = namesIn source (args .names .now) tokens (args .scope) in
+    let e = namesIn source (args .prepared .now) tokens (args .scope) in
     arms-end source tokens (pre .1 .0) e (loop .inv .1) (sym (begins-arm .ensures) ∙ c .if1 .left)
 
 pub met : {M : Type 1} (t : ℕ) → lts.Closed (cs t) (given.arms-at t) arms.Post M

@@ -5,15 +5,12 @@ use native.Mathlib.Nat.{pos-of-ne-zero}
 use lib.Dec.{eqb}
 use Rattle.lexer.specs.internal.Kinds.{leftBrace}
 use Rattle.grammar.specs.Nurl.{productions}
-use Rattle.parser.specs.Readings.{namesIn}
+use Rattle.parser.specs.internal.Readings.{namesIn}
 use Rattle.parser.proofs.Laws.After.{reads-within, within-small}
 use Rattle.parser.proofs.Laws.Views.{names-fixed}
 use Rattle.parser.proofs.Laws.Readers.{level-below, closing, closed-by}
 use Rattle.parser.proofs.Laws.Options.{opened-where}
 use Rattle.parser.proofs.Laws.Statements.{block-whole, block-stuck, block-deep}
-use Prim.Native.Nat.{ℕ}
-use native.Mathlib.Omega.{arith}
-use borrow.Author.Needs.{needs}
 use Rattle.parser.proofs.expressions.block.Reads as block
 use Rattle.parser.proofs.steps.next_is.Reads as next-is-reads
 use Rattle.parser.proofs.steps.refuse.Reads as refuse-reads
@@ -23,6 +20,9 @@ use Rattle.parser.proofs.steps.take.Reads as take-reads
 use Rattle.parser.proofs.steps.close_row.Reads as close-row-reads
 use Rattle.parser.proofs.expressions.+aggregate+arm+arms+assignment+block+call+cast+defer+expression+expressions+let_statement+match_expression+operation+slice+statement+statements+tilde_statement+try_or_closure.Lts-block as lts
 use Rattle.parser.proofs.expressions.+aggregate+arm+arms+assignment+block+call+cast+defer+expression+expressions+let_statement+match_expression+operation+slice+statement+statements+tilde_statement+try_or_closure.Proof.Given as given
+use Prim.Native.Nat.{ℕ}
+use native.Mathlib.Omega.{arith}
+use borrow.Author.Needs.{needs}
 
 abbrev cs : ℕ → lts.Claims
 cs t = (
@@ -53,7 +53,7 @@ returns t c =
     let next-is = c .before .before .next-is in
     let if1 = c .before .if1 in
     let tokens = args .tokens .now in
-    let e = namesIn (args .source .now) (args .names .now) tokens (args .scope) in
+    let e = namesIn (args .source .now) (args .prepared .now) tokens (args .scope) in
     rw (c .refuse .ensures)
     (block-stuck (args .source .now) tokens (pre .1 .0) e _ (sym (next-is .ensures) ∙ not-true (next-is .result) (if1 .taken)))
 
@@ -68,7 +68,7 @@ returns-2 t c =
     let if1 = c .before .before .if1 in
     let if2 = c .before .if2 in
     let tokens = args .tokens .now in
-    let e = namesIn (args .source .now) (args .names .now) tokens (args .scope) in
+    let e = namesIn (args .source .now) (args .prepared .now) tokens (args .scope) in
     rw (c .refuse2 .ensures)
     (block-deep (args .source .now) tokens (pre .1 .0) e _ (sym (next-is .ensures) ∙ not-false (next-is .result) (if1 .left))
     (if2 .taken))
@@ -105,7 +105,7 @@ take-requires t c κs =
     let statements = c .before .before .statements in
     let tokens = args .tokens .now in
     let good = pre .1 .0 in
-    let e = namesIn (args .source .now) (args .names .now) tokens (args .scope) in
+    let e = namesIn (args .source .now) (args .prepared .now) tokens (args .scope) in
     within-small tokens (good .few) (omega arith)
     (reads-within productions _ tokens e (names-fixed (args .source .now) tokens good e) (statements .ensures))
 
@@ -122,7 +122,7 @@ close-row-requires t c κs =
     let source = args .source .now in
     let tokens = args .tokens .now in
     let good = pre .1 .0 in
-    let e = namesIn source (args .names .now) tokens (args .scope) in
+    let e = namesIn source (args .prepared .now) tokens (args .scope) in
     let braced = sym (next-is .ensures) ∙ not-false (next-is .result) (if1 .left) in
     closing productions _ tokens e (names-fixed source tokens good e) good (pre .1 .1)
     (block-whole source tokens good e braced (pre .1 .1) (level-below (pos-of-ne-zero (if2 .left))) (open-row .ensures)
@@ -149,7 +149,7 @@ returns-3 t c =
     let source = start .args .source .now in
     let tokens = start .args .tokens .now in
     let good = start .pre .1 .0 in
-    let e = namesIn source (start .args .names .now) tokens (start .args .scope) in
+    let e = namesIn source (start .args .prepared .now) tokens (start .args .scope) in
     let braced = sym (next-is .ensures) ∙ not-false (next-is .result) (if1 .left) in
     closed-by productions _ tokens e (names-fixed source tokens good e)
     (block-whole source tokens good e braced within (level-below (pos-of-ne-zero (if2 .left))) (open-row .ensures)

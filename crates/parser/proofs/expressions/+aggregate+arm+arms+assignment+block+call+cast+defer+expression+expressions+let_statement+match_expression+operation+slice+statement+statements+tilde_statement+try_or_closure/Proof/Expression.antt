@@ -2,18 +2,15 @@
 use mathlib.Core.Path.{_≡_, refl, _∙_, sym, ap}
 use native.Mathlib.Nat.{pos-of-ne-zero}
 use Rattle.grammar.specs.internal.Nonterminals.{expression as anExpression}
-use Rattle.grammar.specs.Alternatives.{kindAlternative}
-use Rattle.parser.specs.Readings.{namesIn}
-use Rattle.parser.specs.Forms.{operandCount, operationRow}
+use Rattle.grammar.specs.internal.Alternatives.{kindAlternative}
+use Rattle.parser.specs.internal.Readings.{namesIn}
+use Rattle.parser.specs.internal.Operators.{operandCount, operationRow}
 use Rattle.parser.proofs.Laws.After.{within-small}
 use Rattle.parser.proofs.Laws.Readers.{level-below, opened-within}
 use Rattle.parser.proofs.Laws.Openings.{no-expression}
 use Rattle.parser.proofs.Laws.Operators.{match-left}
-use Rattle.parser.proofs.Laws.Expressions.{expression-few, expression-stuck, expression-deep, literal-expression}
-use Rattle.parser.proofs.Laws.Expressions.{name-expression, block-passes}
-use Prim.Native.Nat.{ℕ, _+_, _*_, _-_, _≤_, _<_}
-use native.Mathlib.Omega.{arith}
-use borrow.Author.Needs.{needs}
+use Rattle.parser.proofs.Laws.Expressions.{expression-few, expression-stuck, expression-deep, literal-expression, name-expression}
+use Rattle.parser.proofs.Laws.Expressions.{block-passes}
 use Rattle.parser.proofs.expressions.expression.Reads as expression
 use Rattle.parser.proofs.steps.next_kind.Reads as next-kind-reads
 use Rattle.grammar.proofs.expression_alternative.Reads as expression-alternative-reads
@@ -32,6 +29,9 @@ use Rattle.parser.proofs.expressions.cast.Reads as cast
 use Rattle.parser.proofs.expressions.match_expression.Reads as match-expression
 use Rattle.parser.proofs.expressions.+aggregate+arm+arms+assignment+block+call+cast+defer+expression+expressions+let_statement+match_expression+operation+slice+statement+statements+tilde_statement+try_or_closure.Lts-expression as lts
 use Rattle.parser.proofs.expressions.+aggregate+arm+arms+assignment+block+call+cast+defer+expression+expressions+let_statement+match_expression+operation+slice+statement+statements+tilde_statement+try_or_closure.Proof.Given as given
+use Prim.Native.Nat.{ℕ, _+_, _*_, _-_, _≤_, _<_}
+use native.Mathlib.Omega.{arith}
+use borrow.Author.Needs.{needs}
 
 abbrev cs : ℕ → lts.Claims
 cs t = (
@@ -86,7 +86,7 @@ returns t c =
     let expression-alternative = c .before .before .expression-alternative in
     let if1 = c .before .if1 in
     rw (c .refuse .ensures) (expression-stuck (args .source .now) (args .tokens .now) (pre .1 .0) (namesIn (args .source .now) (args
-    .names .now) (args .tokens .now) (args .scope)) _
+    .prepared .now) (args .tokens .now) (args .scope)) _
     (ap (kindAlternative anExpression) (sym (next-kind .ensures)) ∙ sym (expression-alternative .ensures) ∙ if1 .taken))
 
 refuse-requires-2 : (t : ℕ) → lts.Need-refuse-requires-2 (cs t) (given.expression-at t) expression.Post
@@ -102,7 +102,7 @@ returns-2 t c =
     let if2 = c .before .if2 in
     let form = ap (kindAlternative anExpression) (sym (next-kind .ensures)) ∙ sym (expression-alternative .ensures) in
     rw (c .refuse2 .ensures) (expression-deep (args .source .now) (args .tokens .now) (pre .1 .0) (namesIn (args .source .now) (args
-    .names .now) (args .tokens .now) (args .scope)) _
+    .prepared .now) (args .tokens .now) (args .scope)) _
     (λ z. if1 .left (sym form ∙ z)) (if2 .taken))
 
 operand-count-requires : (t : ℕ) → lts.Need-operand-count-requires (cs t) (given.expression-at t) expression.Post
@@ -283,7 +283,7 @@ returns-4 t c =
     let if2 = c .before .before .before .before .before .before .before .if2 in
     let leaf = c .before .before .leaf in
     let form = ap (kindAlternative anExpression) (sym (next-kind .ensures)) ∙ sym (expression-alternative .ensures) in
-    literal-expression (args .source .now) (args .tokens .now) (pre .1 .0) (namesIn (args .source .now) (args .names .now) (args .tokens
+    literal-expression (args .source .now) (args .tokens .now) (pre .1 .0) (namesIn (args .source .now) (args .prepared .now) (args .tokens
     .now) (args .scope))
     (form ∙ match .keys1) (pre .1 .1) (level-below (pos-of-ne-zero (if2 .left))) (leaf .ensures .0) (leaf .ensures .1)
 
@@ -304,7 +304,7 @@ returns-5 t c =
     let if2 = c .before .before .before .before .before .before .before .if2 in
     let leaf2 = c .before .before .leaf2 in
     let form = ap (kindAlternative anExpression) (sym (next-kind .ensures)) ∙ sym (expression-alternative .ensures) in
-    name-expression (args .source .now) (args .tokens .now) (pre .1 .0) (namesIn (args .source .now) (args .names .now) (args .tokens
+    name-expression (args .source .now) (args .tokens .now) (pre .1 .0) (namesIn (args .source .now) (args .prepared .now) (args .tokens
     .now) (args .scope))
     (form ∙ match .keys2) (pre .1 .1) (level-below (pos-of-ne-zero (if2 .left))) (leaf2 .ensures .0) (leaf2 .ensures .1)
 
@@ -328,7 +328,7 @@ returns-7 t c =
     let size-of = c .before .before .size-of in
     let args = c .before .before .before .before .before .before .before .before .before .before .before .before .before .before .before
     .args in
-    size-of .ensures (args .source .now) (namesIn (args .source .now) (args .names .now) (args .tokens .now) (args .scope))
+    size-of .ensures (args .source .now) (namesIn (args .source .now) (args .prepared .now) (args .tokens .now) (args .scope))
 
 same-length-6 : (t : ℕ) → lts.Need-same-length-6 (cs t) (given.expression-at t) expression.Post
 same-length-6 t c =
@@ -346,7 +346,7 @@ returns-8 t c =
     let match = c .before .before .before .before .match in
     let block = c .before .before .block in
     let form = ap (kindAlternative anExpression) (sym (next-kind .ensures)) ∙ sym (expression-alternative .ensures) in
-    block-passes (args .source .now) (args .tokens .now) (pre .1 .0) (namesIn (args .source .now) (args .names .now) (args .tokens .now)
+    block-passes (args .source .now) (args .tokens .now) (pre .1 .0) (namesIn (args .source .now) (args .prepared .now) (args .tokens .now)
     (args .scope)) (form ∙ match .keys5) (pre .1 .1) (block .ensures)
 
 same-length-7 : (t : ℕ) → lts.Need-same-length-7 (cs t) (given.expression-at t) expression.Post

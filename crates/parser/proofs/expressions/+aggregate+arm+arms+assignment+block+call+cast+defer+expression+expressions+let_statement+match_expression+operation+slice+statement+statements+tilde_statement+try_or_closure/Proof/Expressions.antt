@@ -2,38 +2,39 @@
 use mathlib.Core.Path.{_≡_, refl, _∙_, sym}
 use mathlib.Core.List.{[], _∷_}
 use lib.ListN.{length}
-use Rattle.lexer.specs.Table.{tokenRoom, rowsOf}
-use Rattle.grammar.specs.Grammars.{part, noRow}
+use Rattle.lexer.specs.Table.{tokenRoom}
+use Rattle.lexer.specs.internal.TokenRows.{rowsOf}
+use Rattle.grammar.specs.Grammars.{derived, noRow}
 use Rattle.grammar.specs.internal.Nonterminals.{expressions as expressionList, expression as anExpression}
 use Rattle.grammar.specs.Nurl.{productions}
 use Rattle.grammar.specs.Languages.{language17}
 use Rattle.grammar.specs.Sources.{viewOf}
-use Rattle.parser.specs.Readings.{namesIn}
+use Rattle.parser.specs.internal.Readings.{namesIn}
 use Rattle.parser.proofs.Laws.After.{After, start, after-within, within-wider}
 use Rattle.parser.proofs.Laws.Views.{names-fixed}
 use Rattle.parser.proofs.Laws.Loops.{ahead, reads-falls, begins-kind}
 use Rattle.parser.proofs.Laws.Openings.{no-expression}
 use Rattle.parser.proofs.Laws.Expressions.{expressions-go, expressions-end}
-use Prim.Native.Nat.{ℕ}
-use native.Mathlib.Omega.{arith}
-use borrow.Author.Needs.{needs}
 use Rattle.parser.proofs.expressions.expressions.Reads as expressions
 use Rattle.parser.proofs.expressions.begins_expression.Reads as begins-expression-reads
 use Rattle.parser.proofs.expressions.expression.Reads as expression
 use Rattle.parser.proofs.expressions.+aggregate+arm+arms+assignment+block+call+cast+defer+expression+expressions+let_statement+match_expression+operation+slice+statement+statements+tilde_statement+try_or_closure.Lts-expressions as lts
 use Rattle.parser.proofs.expressions.+aggregate+arm+arms+assignment+block+call+cast+defer+expression+expressions+let_statement+match_expression+operation+slice+statement+statements+tilde_statement+try_or_closure.Proof.Given as given
+use Prim.Native.Nat.{ℕ}
+use native.Mathlib.Omega.{arith}
+use borrow.Author.Needs.{needs}
 
 abbrev cs : ℕ → lts.Claims
 cs t = (begins-expression-reads.Asked, begins-expression-reads.Learnt, given.expression-below t, expression.Post)
 
 abbrev Inv-loop : lts.InvT-loop
-Inv-loop source names tokens rows₀ scope left step₀ rows step =
+Inv-loop source prepared tokens rows₀ scope left step₀ rows step =
     (length rows ≡ length rows₀) ×
-    After productions (viewOf language17 source (rowsOf tokens)) (tokenRoom tokens) (namesIn source names tokens scope) left left
-    noRow 0 0 (part expressionList ∷ []) (part expressionList ∷ []) step₀ rows₀ step rows
+    After productions (viewOf language17 source (rowsOf tokens)) (tokenRoom tokens) (namesIn source prepared tokens scope) left left
+    noRow 0 0 (derived expressionList ∷ []) (derived expressionList ∷ []) step₀ rows₀ step rows
 
 abbrev μ-loop : lts.MeasureT-loop
-μ-loop source names tokens rows₀ scope left step₀ rows step = ahead tokens step
+μ-loop source prepared tokens rows₀ scope left step₀ rows step = ahead tokens step
 
 loop-holds : (t : ℕ) → lts.Need-loop-holds (cs t) (given.expressions-at t) expressions.Post Inv-loop μ-loop
 loop-holds t c =
@@ -41,7 +42,7 @@ loop-holds t c =
     let pre = c .before .before .before .before .pre in
     let tokens = args .tokens .now in
     let good = pre .1 .0 in
-    let e = namesIn (args .source .now) (args .names .now) tokens (args .scope) in
+    let e = namesIn (args .source .now) (args .prepared .now) tokens (args .scope) in
     (refl, start productions _ tokens e (names-fixed (args .source .now) tokens good e) (pre .1 .1))
 
 begins-expression-requires : (t : ℕ) → lts.Need-begins-expression-requires (cs t) (given.expressions-at t) expressions.Post Inv-loop
@@ -55,7 +56,7 @@ expression-requires t c κs =
     let loop = c .before .before .before .loop in
     let tokens = args .tokens .now in
     let good = pre .1 .0 in
-    let e = namesIn (args .source .now) (args .names .now) tokens (args .scope) in
+    let e = namesIn (args .source .now) (args .prepared .now) tokens (args .scope) in
     let reached = after-within productions _ tokens e (names-fixed (args .source .now) tokens good e) (loop .inv .1) in
     (omega (arith, pre .0), (good, within-wider tokens reached (omega arith)))
 
@@ -77,7 +78,7 @@ loop-again t c =
     let if1 = c .before .before .before .before .if1 in
     let source = args .source .now in
     let tokens = args .tokens .now in
-    let e = namesIn source (args .names .now) tokens (args .scope) in (
+    let e = namesIn source (args .prepared .now) tokens (args .scope) in (
       expression .kept .1 .1 .1 .0 ∙ loop .inv .0,
       expressions-go source tokens (pre .1 .0) e (loop .inv .1) (sym (begins-expression .ensures) ∙ if1 .taken) (expression .ensures),
     )
@@ -95,7 +96,7 @@ returns t c =
     let begins-expression = c .before .begins-expression in
     let source = args .source .now in
     let tokens = args .tokens .now in
-    let e = namesIn source (args .names .now) tokens (args .scope) in
+    let e = namesIn source (args .prepared .now) tokens (args .scope) in
     expressions-end source tokens (pre .1 .0) e (loop .inv .1) (sym (begins-expression .ensures) ∙ c .if1 .left)
 
 pub met : {M : Type 1} (t : ℕ) → lts.Closed (cs t) (given.expressions-at t) expressions.Post M

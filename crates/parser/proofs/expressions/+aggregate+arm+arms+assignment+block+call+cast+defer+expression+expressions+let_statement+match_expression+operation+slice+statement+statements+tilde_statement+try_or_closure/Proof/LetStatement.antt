@@ -3,16 +3,13 @@ use mathlib.Core.Path.{_∙_}
 use mathlib.Core.List.{[]}
 use Rattle.grammar.specs.internal.Nonterminals.{statement}
 use Rattle.grammar.specs.Nurl.{productions}
-use Rattle.parser.specs.Readings.{namesIn}
+use Rattle.parser.specs.internal.Readings.{namesIn}
 use Rattle.parser.proofs.Laws.After.{reads-within, within-small, within-wider}
 use Rattle.parser.proofs.Laws.Views.{names-fixed}
 use Rattle.parser.proofs.Laws.Readers.{level-below, opened-within, within-mark, closing, closed-by}
 use Rattle.parser.proofs.Laws.Options.{within-if}
 use Rattle.parser.proofs.Laws.Statements.{let-plain, let-typed}
 use Rattle.parser.proofs.Laws.Openings.{no-statement}
-use Prim.Native.Nat.{ℕ}
-use native.Mathlib.Omega.{arith}
-use borrow.Author.Needs.{needs}
 use Rattle.parser.proofs.expressions.let_statement.Reads as let-statement
 use Rattle.parser.proofs.steps.open_row.Reads as open-row-reads
 use Rattle.parser.proofs.steps.take_if.Reads as take-if-reads
@@ -23,6 +20,9 @@ use Rattle.parser.proofs.steps.close_row.Reads as close-row-reads
 use Rattle.parser.proofs.types.read_type.Reads as read-type-reads
 use Rattle.parser.proofs.expressions.+aggregate+arm+arms+assignment+block+call+cast+defer+expression+expressions+let_statement+match_expression+operation+slice+statement+statements+tilde_statement+try_or_closure.Lts-let_statement as lts
 use Rattle.parser.proofs.expressions.+aggregate+arm+arms+assignment+block+call+cast+defer+expression+expressions+let_statement+match_expression+operation+slice+statement+statements+tilde_statement+try_or_closure.Proof.Given as given
+use Prim.Native.Nat.{ℕ}
+use native.Mathlib.Omega.{arith}
+use borrow.Author.Needs.{needs}
 
 abbrev cs : ℕ → lts.Claims
 cs t = (
@@ -99,7 +99,7 @@ close-row-requires t c κs =
     let source = args .source .now in
     let tokens = args .tokens .now in
     let good = pre .1 .0 in
-    let e = namesIn source (args .names .now) tokens (args .scope) in
+    let e = namesIn source (args .prepared .now) tokens (args .scope) in
     closing productions _ tokens e (names-fixed source tokens good e) good (pre .1 .1 .0)
     (let-plain source tokens good e (pre .1 .1 .1 .1) (pre .1 .1 .0) (level-below (pre .1 .1 .1 .0)) (open-row .ensures)
     (take-if .ensures) (rw (plain-name .ensures) at (if1 .taken)) (take .ensures) (expression .ensures))
@@ -126,7 +126,7 @@ returns t c =
     let source = args .source .now in
     let tokens = args .tokens .now in
     let good = pre .1 .0 in
-    let e = namesIn source (args .names .now) tokens (args .scope) in
+    let e = namesIn source (args .prepared .now) tokens (args .scope) in
     closed-by productions _ tokens e (names-fixed source tokens good e)
     (let-plain source tokens good e (pre .1 .1 .1 .1) (pre .1 .1 .0) (level-below (pre .1 .1 .1 .0)) (open-row .ensures)
     (take-if .ensures) (rw (plain-name .ensures) at (if1 .taken)) (take .ensures) (expression .ensures))
@@ -190,7 +190,7 @@ close-row-requires-2 t c κs =
     let source = args .source .now in
     let tokens = args .tokens .now in
     let good = pre .1 .0 in
-    let e = namesIn source (args .names .now) tokens (args .scope) in
+    let e = namesIn source (args .prepared .now) tokens (args .scope) in
     closing productions _ tokens e (names-fixed source tokens good e) good (pre .1 .1 .0)
     (let-typed source tokens good e (pre .1 .1 .1 .1) (pre .1 .1 .0) (level-below (pre .1 .1 .1 .0)) (open-row .ensures)
     (take-if .ensures) (rw (plain-name .ensures) at (if1 .left)) (read-type .ensures source e) (take2 .ensures)
@@ -223,7 +223,7 @@ returns-2 t c =
     let source = args .source .now in
     let tokens = args .tokens .now in
     let good = pre .1 .0 in
-    let e = namesIn source (args .names .now) tokens (args .scope) in
+    let e = namesIn source (args .prepared .now) tokens (args .scope) in
     closed-by productions _ tokens e (names-fixed source tokens good e)
     (let-typed source tokens good e (pre .1 .1 .1 .1) (pre .1 .1 .0) (level-below (pre .1 .1 .1 .0)) (open-row .ensures)
     (take-if .ensures) (rw (plain-name .ensures) at (if1 .left)) (read-type .ensures source e) (take2 .ensures)

@@ -2,14 +2,12 @@
 use mathlib.Core.Path.{_∙_}
 use Rattle.grammar.specs.internal.Nonterminals.{expression as anExpression}
 use Rattle.grammar.specs.Nurl.{productions}
-use Rattle.parser.specs.Readings.{namesIn}
+use Rattle.parser.specs.internal.Readings.{namesIn}
 use Rattle.parser.proofs.Laws.After.{reads-within, within-small, within-wider}
 use Rattle.parser.proofs.Laws.Views.{names-fixed}
 use Rattle.parser.proofs.Laws.Readers.{level-below, opened-within, within-mark, closing, closed-by}
 use Rattle.parser.proofs.Laws.Expressions.{match-expression as match-whole}
 use Rattle.parser.proofs.Laws.Openings.{no-expression}
-use Prim.Native.Nat.{ℕ}
-use native.Mathlib.Omega.{arith}
 use Rattle.parser.proofs.expressions.match_expression.Reads as match-expression
 use Rattle.parser.proofs.steps.open_row.Reads as open-row-reads
 use Rattle.parser.proofs.expressions.expression.Reads as expression
@@ -18,6 +16,8 @@ use Rattle.parser.proofs.expressions.arms.Reads as arms
 use Rattle.parser.proofs.steps.close_row.Reads as close-row-reads
 use Rattle.parser.proofs.expressions.+aggregate+arm+arms+assignment+block+call+cast+defer+expression+expressions+let_statement+match_expression+operation+slice+statement+statements+tilde_statement+try_or_closure.Lts-match_expression as lts
 use Rattle.parser.proofs.expressions.+aggregate+arm+arms+assignment+block+call+cast+defer+expression+expressions+let_statement+match_expression+operation+slice+statement+statements+tilde_statement+try_or_closure.Proof.Given as given
+use Prim.Native.Nat.{ℕ}
+use native.Mathlib.Omega.{arith}
 
 abbrev cs : ℕ → lts.Claims
 cs t = (
@@ -62,7 +62,7 @@ take-requires t c κs =
     let source = args .source .now in
     let tokens = args .tokens .now in
     let good = pre .1 .0 in
-    let e = namesIn source (args .names .now) tokens (args .scope) in
+    let e = namesIn source (args .prepared .now) tokens (args .scope) in
     within-small tokens (good .few) (omega arith)
     (reads-within productions _ tokens e (names-fixed source tokens good e) (expression .ensures))
 
@@ -80,7 +80,7 @@ arms-requires t c κs =
     let source = args .source .now in
     let tokens = args .tokens .now in
     let good = pre .1 .0 in
-    let e = namesIn source (args .names .now) tokens (args .scope) in
+    let e = namesIn source (args .prepared .now) tokens (args .scope) in
     let from = reads-within productions _ tokens e (names-fixed source tokens good e) (expression .ensures) in
     (omega (arith, pre .0, pre .1 .1 .1 .0), (good, within-mark tokens 16 (take .ensures) from))
 
@@ -92,7 +92,7 @@ take-requires-2 t c κs =
     let source = args .source .now in
     let tokens = args .tokens .now in
     let good = pre .1 .0 in
-    let e = namesIn source (args .names .now) tokens (args .scope) in
+    let e = namesIn source (args .prepared .now) tokens (args .scope) in
     within-small tokens (good .few) (omega arith)
     (reads-within productions _ tokens e (names-fixed source tokens good e) (arms .ensures))
 
@@ -110,7 +110,7 @@ close-row-requires t c κs =
     let source = args .source .now in
     let tokens = args .tokens .now in
     let good = pre .1 .0 in
-    let e = namesIn source (args .names .now) tokens (args .scope) in
+    let e = namesIn source (args .prepared .now) tokens (args .scope) in
     closing productions _ tokens e (names-fixed source tokens good e) good (pre .1 .1 .0)
     (match-whole source tokens good e (pre .1 .1 .1 .1) (pre .1 .1 .0) (level-below (pre .1 .1 .1 .0)) (open-row .ensures)
     (expression .ensures) (take .ensures) (arms .ensures) (take2 .ensures))
@@ -138,7 +138,7 @@ returns t c =
     let source = args .source .now in
     let tokens = args .tokens .now in
     let good = pre .1 .0 in
-    let e = namesIn source (args .names .now) tokens (args .scope) in
+    let e = namesIn source (args .prepared .now) tokens (args .scope) in
     closed-by productions _ tokens e (names-fixed source tokens good e)
     (match-whole source tokens good e (pre .1 .1 .1 .1) (pre .1 .1 .0) (level-below (pre .1 .1 .1 .0)) (open-row .ensures)
     (expression .ensures) (take .ensures) (arms .ensures) (take2 .ensures))

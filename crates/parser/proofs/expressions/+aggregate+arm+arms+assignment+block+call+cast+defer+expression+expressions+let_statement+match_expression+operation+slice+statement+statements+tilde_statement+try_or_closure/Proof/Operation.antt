@@ -3,28 +3,29 @@ use mathlib.Core.Path.{_≡_, refl, _∙_}
 use native.Mathlib.Nat.{sub-zero}
 use mathlib.Core.List.{[], _∷_}
 use lib.ListN.{length, replicate}
-use Rattle.lexer.specs.Table.{tokenRoom, rowsOf}
-use Rattle.grammar.specs.Grammars.{part, row}
+use Rattle.lexer.specs.Table.{tokenRoom}
+use Rattle.lexer.specs.internal.TokenRows.{rowsOf}
+use Rattle.grammar.specs.Grammars.{derived, givesRow}
 use Rattle.grammar.specs.internal.Nonterminals.{expression as anExpression}
 use Rattle.grammar.specs.Nurl.{productions}
 use Rattle.grammar.specs.Languages.{language17}
 use Rattle.grammar.specs.Sources.{viewOf}
-use Rattle.grammar.specs.Alternatives.{kindAlternative}
-use Rattle.parser.specs.Steps.{nextKind}
-use Rattle.parser.specs.Readings.{namesIn}
+use Rattle.grammar.specs.internal.Alternatives.{kindAlternative}
+use Rattle.parser.specs.internal.Steps.{nextKind}
+use Rattle.parser.specs.internal.Readings.{namesIn}
 use Rattle.parser.proofs.Laws.After.{After, after-within, within-small, within-wider}
 use Rattle.parser.proofs.Laws.Views.{names-fixed}
 use Rattle.parser.proofs.Laws.Readers.{level-below, closing, closed-by, operand}
 use Rattle.parser.proofs.Laws.Operators.{Operator, operator-of}
 use Rattle.parser.proofs.Laws.Expressions.{operation as begun-operation}
-use Prim.Native.Nat.{ℕ, _-_, _≤_}
-use native.Mathlib.Omega.{arith}
 use Rattle.parser.proofs.expressions.operation.Reads as operation
 use Rattle.parser.proofs.steps.open_row.Reads as open-row-reads
 use Rattle.parser.proofs.expressions.expression.Reads as expression
 use Rattle.parser.proofs.steps.close_row.Reads as close-row-reads
 use Rattle.parser.proofs.expressions.+aggregate+arm+arms+assignment+block+call+cast+defer+expression+expressions+let_statement+match_expression+operation+slice+statement+statements+tilde_statement+try_or_closure.Lts-operation as lts
 use Rattle.parser.proofs.expressions.+aggregate+arm+arms+assignment+block+call+cast+defer+expression+expressions+let_statement+match_expression+operation+slice+statement+statements+tilde_statement+try_or_closure.Proof.Given as given
+use Prim.Native.Nat.{ℕ, _-_, _≤_}
+use native.Mathlib.Omega.{arith}
 
 abbrev cs : ℕ → lts.Claims
 cs t = (
@@ -37,13 +38,13 @@ cs t = (
 )
 
 abbrev Inv-loop : lts.InvT-loop
-Inv-loop source names tokens rows₀ scope from left count kind step₀ done₀ rows step done =
+Inv-loop source prepared tokens rows₀ scope from left count kind step₀ done₀ rows step done =
     (done ≤ count) × (length rows ≡ length rows₀) ×
-    After productions (viewOf language17 source (rowsOf tokens)) (tokenRoom tokens) (namesIn source names tokens scope) left (left - 1)
-    (row kind) 1 0 (part anExpression ∷ []) (replicate (count - done) (part anExpression)) from rows₀ step rows
+    After productions (viewOf language17 source (rowsOf tokens)) (tokenRoom tokens) (namesIn source prepared tokens scope) left (left - 1)
+    (givesRow kind) 1 0 (derived anExpression ∷ []) (replicate (count - done) (derived anExpression)) from rows₀ step rows
 
 abbrev μ-loop : lts.MeasureT-loop
-μ-loop source names tokens rows₀ scope from left count kind step₀ done₀ rows step done = count - done
+μ-loop source prepared tokens rows₀ scope from left count kind step₀ done₀ rows step done = count - done
 
 open-row-requires : (t : ℕ) → lts.Need-open-row-requires (cs t) (given.operation-at t) operation.Post Inv-loop μ-loop
 open-row-requires t c κs =
@@ -78,7 +79,7 @@ expression-requires t c κs =
     let loop = c .before .before .loop in
     let tokens = args .tokens .now in
     let good = pre .1 .0 in
-    let e = namesIn (args .source .now) (args .names .now) tokens (args .scope) in
+    let e = namesIn (args .source .now) (args .prepared .now) tokens (args .scope) in
     let reached = after-within productions _ tokens e (names-fixed (args .source .now) tokens good e) (loop .inv .2) in
     (omega (arith, pre .0, pre .1 .1 .1 .0), (good, within-wider tokens reached (omega arith)))
 
@@ -102,7 +103,7 @@ loop-again t c =
     let loop = c .before .before .before .before .before .loop in
     let tokens = args .tokens .now in
     let good = pre .1 .0 in
-    let e = namesIn (args .source .now) (args .names .now) tokens (args .scope) in (
+    let e = namesIn (args .source .now) (args .prepared .now) tokens (args .scope) in (
       omega (arith, loop-test .taken),
       expression .kept .1 .1 .1 .0 ∙ loop .inv .1,
       operand productions _ tokens e (names-fixed (args .source .now) tokens good e) _ _ (loop-test .taken) (loop .inv .2)
@@ -116,7 +117,7 @@ close-row-requires t c κs =
     let loop = c .before .before .loop in
     let tokens = args .tokens .now in
     let good = pre .1 .0 in
-    let e = namesIn (args .source .now) (args .names .now) tokens (args .scope) in
+    let e = namesIn (args .source .now) (args .prepared .now) tokens (args .scope) in
     closing productions _ tokens e (names-fixed (args .source .now) tokens good e) good (pre .1 .1 .0) (loop .inv .2)
 
 same-length : (t : ℕ) → lts.Need-same-length (cs t) (given.operation-at t) operation.Post Inv-loop μ-loop
@@ -134,7 +135,7 @@ returns t c =
     let close-row = c .before .before .close-row in
     let tokens = args .tokens .now in
     let good = pre .1 .0 in
-    let e = namesIn (args .source .now) (args .names .now) tokens (args .scope) in
+    let e = namesIn (args .source .now) (args .prepared .now) tokens (args .scope) in
     let all : args .count - loop .done ≡ 0 = omega (arith, loop-test .left) in
     closed-by productions _ tokens e (names-fixed (args .source .now) tokens good e) (rw all at (loop .inv .2)) (omega arith)
     (close-row .ensures .0) (close-row .ensures .1)

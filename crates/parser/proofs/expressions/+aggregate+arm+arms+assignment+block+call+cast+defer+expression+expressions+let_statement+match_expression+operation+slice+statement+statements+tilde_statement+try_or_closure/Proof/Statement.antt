@@ -2,13 +2,10 @@
 use mathlib.Core.Path.{_≡_, _∙_, sym, ap}
 use native.Mathlib.Nat.{pos-of-ne-zero}
 use Rattle.grammar.specs.internal.Nonterminals.{statement as aStatement}
-use Rattle.grammar.specs.Alternatives.{kindAlternative}
-use Rattle.parser.specs.Readings.{namesIn}
+use Rattle.grammar.specs.internal.Alternatives.{kindAlternative}
+use Rattle.parser.specs.internal.Readings.{namesIn}
 use Rattle.parser.proofs.Laws.Readers.{beyond}
 use Rattle.parser.proofs.Laws.Statements.{statement-few, statement-stuck, statement-deep, statement-expression}
-use Prim.Native.Nat.{ℕ}
-use native.Mathlib.Omega.{arith}
-use borrow.Author.Needs.{needs}
 use Rattle.parser.proofs.expressions.statement.Reads as statement
 use Rattle.parser.proofs.steps.next_kind.Reads as next-kind-reads
 use Rattle.grammar.proofs.statement_alternative.Reads as statement-alternative-reads
@@ -20,6 +17,9 @@ use Rattle.parser.proofs.expressions.defer.Reads as defer
 use Rattle.parser.proofs.expressions.tilde_statement.Reads as tilde-statement
 use Rattle.parser.proofs.expressions.+aggregate+arm+arms+assignment+block+call+cast+defer+expression+expressions+let_statement+match_expression+operation+slice+statement+statements+tilde_statement+try_or_closure.Lts-statement as lts
 use Rattle.parser.proofs.expressions.+aggregate+arm+arms+assignment+block+call+cast+defer+expression+expressions+let_statement+match_expression+operation+slice+statement+statements+tilde_statement+try_or_closure.Proof.Given as given
+use Prim.Native.Nat.{ℕ}
+use native.Mathlib.Omega.{arith}
+use borrow.Author.Needs.{needs}
 
 abbrev cs : ℕ → lts.Claims
 cs t = (
@@ -58,7 +58,7 @@ returns t c =
     let pre = c .before .before .before .before .before .before .before .before .pre in
     let if1 = c .before .if1 in
     let tokens = args .tokens .now in
-    let e = namesIn (args .source .now) (args .names .now) tokens (args .scope) in
+    let e = namesIn (args .source .now) (args .prepared .now) tokens (args .scope) in
     let form = ap (kindAlternative aStatement) (sym (next-kind .ensures)) ∙ sym (statement-alternative .ensures) in
     rw (c .refuse .ensures) (statement-stuck (args .source .now) tokens (pre .1 .0) e _ (form ∙ if1 .taken))
 
@@ -81,7 +81,7 @@ returns-2 t c =
     let if2 = c .before .before .before .before .if2 in
     let expression = c .before .before .expression in
     let tokens = args .tokens .now in
-    let e = namesIn (args .source .now) (args .names .now) tokens (args .scope) in
+    let e = namesIn (args .source .now) (args .prepared .now) tokens (args .scope) in
     let form = ap (kindAlternative aStatement) (sym (next-kind .ensures)) ∙ sym (statement-alternative .ensures) in
     statement-expression (args .source .now) tokens (pre .1 .0) e (form ∙ if2 .taken) (pre .1 .1) (expression .ensures)
 
@@ -98,7 +98,7 @@ returns-3 t c =
     let pre = c .before .before .before .before .before .before .before .before .before .before .pre in
     let if3 = c .before .if3 in
     let tokens = args .tokens .now in
-    let e = namesIn (args .source .now) (args .names .now) tokens (args .scope) in
+    let e = namesIn (args .source .now) (args .prepared .now) tokens (args .scope) in
     let form = ap (kindAlternative aStatement) (sym (next-kind .ensures)) ∙ sym (statement-alternative .ensures) in
     let two = beyond (pos-of-ne-zero (if1 .left)) (if2 .left) in
     rw (c .refuse2 .ensures)

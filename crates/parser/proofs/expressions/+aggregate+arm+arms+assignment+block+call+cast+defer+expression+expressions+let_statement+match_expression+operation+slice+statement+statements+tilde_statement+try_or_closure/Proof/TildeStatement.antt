@@ -2,15 +2,12 @@
 use mathlib.Core.Path.{sym, _∙_}
 use Rattle.grammar.specs.internal.Nonterminals.{statement}
 use Rattle.grammar.specs.Nurl.{productions}
-use Rattle.parser.specs.Readings.{namesIn}
+use Rattle.parser.specs.internal.Readings.{namesIn}
 use Rattle.parser.proofs.Laws.After.{reads-within, within-small, within-wider}
 use Rattle.parser.proofs.Laws.Views.{names-fixed}
 use Rattle.parser.proofs.Laws.Readers.{level-below, opened-within, within-mark, closing, closed-by}
 use Rattle.parser.proofs.Laws.Statements.{for-each, while-loop, tilde-complement}
 use Rattle.parser.proofs.Laws.Openings.{no-statement}
-use Prim.Native.Nat.{ℕ}
-use native.Mathlib.Omega.{arith}
-use borrow.Author.Needs.{needs}
 use Rattle.parser.proofs.expressions.tilde_statement.Reads as tilde-statement
 use Rattle.parser.proofs.steps.open_row.Reads as open-row-reads
 use Rattle.parser.proofs.questions.two_names.Reads as two-names-reads
@@ -21,6 +18,9 @@ use Rattle.parser.proofs.steps.close_row.Reads as close-row-reads
 use Rattle.parser.proofs.steps.next_is.Reads as next-is-reads
 use Rattle.parser.proofs.expressions.+aggregate+arm+arms+assignment+block+call+cast+defer+expression+expressions+let_statement+match_expression+operation+slice+statement+statements+tilde_statement+try_or_closure.Lts-tilde_statement as lts
 use Rattle.parser.proofs.expressions.+aggregate+arm+arms+assignment+block+call+cast+defer+expression+expressions+let_statement+match_expression+operation+slice+statement+statements+tilde_statement+try_or_closure.Proof.Given as given
+use Prim.Native.Nat.{ℕ}
+use native.Mathlib.Omega.{arith}
+use borrow.Author.Needs.{needs}
 
 abbrev cs : ℕ → lts.Claims
 cs t = (
@@ -87,7 +87,7 @@ block-requires t c κs =
     let source = args .source .now in
     let tokens = args .tokens .now in
     let good = pre .1 .0 in
-    let e = namesIn source (args .names .now) tokens (args .scope) in
+    let e = namesIn source (args .prepared .now) tokens (args .scope) in
     let listed = reads-within productions _ tokens e (names-fixed source tokens good e) (expression .ensures) in
     (omega (arith, pre .0, pre .1 .1 .1 .0), (good, within-wider tokens listed (omega arith)))
 
@@ -106,7 +106,7 @@ close-row-requires t c κs =
     let source = args .source .now in
     let tokens = args .tokens .now in
     let good = pre .1 .0 in
-    let e = namesIn source (args .names .now) tokens (args .scope) in
+    let e = namesIn source (args .prepared .now) tokens (args .scope) in
     closing productions _ tokens e (names-fixed source tokens good e) good (pre .1 .1 .0)
     (for-each source tokens good e (pre .1 .1 .1 .1) (pre .1 .1 .0) (level-below (pre .1 .1 .1 .0)) (open-row .ensures)
     (sym (two-names .ensures source e) ∙ if1 .taken) (take .ensures) (expression .ensures) (block .ensures))
@@ -136,7 +136,7 @@ returns t c =
     let source = args .source .now in
     let tokens = args .tokens .now in
     let good = pre .1 .0 in
-    let e = namesIn source (args .names .now) tokens (args .scope) in
+    let e = namesIn source (args .prepared .now) tokens (args .scope) in
     closed-by productions _ tokens e (names-fixed source tokens good e)
     (for-each source tokens good e (pre .1 .1 .1 .1) (pre .1 .1 .0) (level-below (pre .1 .1 .1 .0)) (open-row .ensures)
     (sym (two-names .ensures source e) ∙ if1 .taken) (take .ensures) (expression .ensures) (block .ensures))
@@ -172,7 +172,7 @@ block-requires-2 t c κs =
     let source = args .source .now in
     let tokens = args .tokens .now in
     let good = pre .1 .0 in
-    let e = namesIn source (args .names .now) tokens (args .scope) in
+    let e = namesIn source (args .prepared .now) tokens (args .scope) in
     let tested = reads-within productions _ tokens e (names-fixed source tokens good e) (expression2 .ensures) in
     (omega (arith, pre .0, pre .1 .1 .1 .0), (good, within-wider tokens tested (omega arith)))
 
@@ -192,7 +192,7 @@ close-row-requires-2 t c κs =
     let source = args .source .now in
     let tokens = args .tokens .now in
     let good = pre .1 .0 in
-    let e = namesIn source (args .names .now) tokens (args .scope) in
+    let e = namesIn source (args .prepared .now) tokens (args .scope) in
     closing productions _ tokens e (names-fixed source tokens good e) good (pre .1 .1 .0)
     (while-loop source tokens good e (pre .1 .1 .1 .1) (pre .1 .1 .0) (level-below (pre .1 .1 .1 .0)) (open-row .ensures)
     (sym (two-names .ensures source e) ∙ if1 .left) (expression2 .ensures) (sym (next-is .ensures) ∙ if2 .taken)
@@ -224,7 +224,7 @@ returns-2 t c =
     let source = args .source .now in
     let tokens = args .tokens .now in
     let good = pre .1 .0 in
-    let e = namesIn source (args .names .now) tokens (args .scope) in
+    let e = namesIn source (args .prepared .now) tokens (args .scope) in
     closed-by productions _ tokens e (names-fixed source tokens good e)
     (while-loop source tokens good e (pre .1 .1 .1 .1) (pre .1 .1 .0) (level-below (pre .1 .1 .1 .0)) (open-row .ensures)
     (sym (two-names .ensures source e) ∙ if1 .left) (expression2 .ensures) (sym (next-is .ensures) ∙ if2 .taken)
@@ -244,7 +244,7 @@ close-row-requires-3 t c κs =
     let source = args .source .now in
     let tokens = args .tokens .now in
     let good = pre .1 .0 in
-    let e = namesIn source (args .names .now) tokens (args .scope) in
+    let e = namesIn source (args .prepared .now) tokens (args .scope) in
     closing productions _ tokens e (names-fixed source tokens good e) good (pre .1 .1 .0)
     (tilde-complement source tokens good e (pre .1 .1 .1 .1) (pre .1 .1 .0) (level-below (pre .1 .1 .1 .0)) (open-row .ensures)
     (sym (two-names .ensures source e) ∙ if1 .left) (expression2 .ensures) (sym (next-is .ensures) ∙ if2 .left))
@@ -271,7 +271,7 @@ returns-3 t c =
     let source = args .source .now in
     let tokens = args .tokens .now in
     let good = pre .1 .0 in
-    let e = namesIn source (args .names .now) tokens (args .scope) in
+    let e = namesIn source (args .prepared .now) tokens (args .scope) in
     closed-by productions _ tokens e (names-fixed source tokens good e)
     (tilde-complement source tokens good e (pre .1 .1 .1 .1) (pre .1 .1 .0) (level-below (pre .1 .1 .1 .0)) (open-row .ensures)
     (sym (two-names .ensures source e) ∙ if1 .left) (expression2 .ensures) (sym (next-is .ensures) ∙ if2 .left))

@@ -9,9 +9,6 @@ use Rattle.parser.proofs.Laws.Views.{names-fixed}
 use Rattle.parser.proofs.Laws.Readers.{level-below, opened-within, within-mark, within-word, closing, closed-by}
 use Rattle.parser.proofs.Laws.Types.{function-type, instance}
 use Rattle.parser.proofs.Laws.Openings.{no-type}
-use Prim.Native.Nat.{ℕ, _-_}
-use native.Mathlib.Omega.{arith}
-use borrow.Author.Needs.{needs}
 use Rattle.parser.proofs.types.parenthesized.Reads as parenthesized
 use Rattle.parser.proofs.steps.open_row.Reads as open-row-reads
 use Rattle.parser.proofs.steps.next_is.Reads as next-is-reads
@@ -23,6 +20,9 @@ use Rattle.parser.proofs.words.take_word.Reads as take-word-reads
 use Rattle.parser.proofs.words.more_words.Reads as more-words-reads
 use Rattle.parser.proofs.types.+parenthesized+read_type+type_operator+types.Lts-parenthesized as lts
 use Rattle.parser.proofs.types.+parenthesized+read_type+type_operator+types.Proof.Given as given
+use Prim.Native.Nat.{ℕ, _-_}
+use native.Mathlib.Omega.{arith}
+use borrow.Author.Needs.{needs}
 
 abbrev cs : ℕ → lts.Claims
 cs t = (

@@ -2,15 +2,12 @@
 use mathlib.Core.Path.{_≡_, refl, _∙_, sym, ap}
 use native.Mathlib.Nat.{pos-of-ne-zero}
 use Rattle.grammar.specs.internal.Nonterminals.{type}
-use Rattle.grammar.specs.Alternatives.{kindAlternative}
-use Rattle.parser.specs.Forms.{pointer, optional, slice, result}
+use Rattle.grammar.specs.internal.Alternatives.{kindAlternative}
+use Rattle.parser.specs.internal.Operators.{pointer, optional, slice, result}
 use Rattle.parser.proofs.Laws.After.{within-small}
 use Rattle.parser.proofs.Laws.Readers.{beyond, level-below, opened-within}
 use Rattle.parser.proofs.Laws.Openings.{no-type}
 use Rattle.parser.proofs.Laws.Types.{type-few, type-stuck, type-deep, base-type, named-type}
-use Prim.Native.Nat.{ℕ}
-use native.Mathlib.Omega.{arith}
-use borrow.Author.Needs.{needs}
 use Rattle.parser.proofs.types.read_type.Reads as read-type
 use Rattle.parser.proofs.steps.next_kind.Reads as next-kind-reads
 use Rattle.grammar.proofs.type_alternative.Reads as type-alternative-reads
@@ -20,6 +17,9 @@ use Rattle.parser.proofs.types.type_operator.Reads as type-operator
 use Rattle.parser.proofs.types.parenthesized.Reads as parenthesized
 use Rattle.parser.proofs.types.+parenthesized+read_type+type_operator+types.Lts-read_type as lts
 use Rattle.parser.proofs.types.+parenthesized+read_type+type_operator+types.Proof.Given as given
+use Prim.Native.Nat.{ℕ}
+use native.Mathlib.Omega.{arith}
+use borrow.Author.Needs.{needs}
 
 abbrev cs : ℕ → lts.Claims
 cs t = (

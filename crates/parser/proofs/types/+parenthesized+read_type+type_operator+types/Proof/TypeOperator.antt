@@ -3,8 +3,9 @@ use mathlib.Core.Path.{_≡_, refl, _∙_}
 use native.Mathlib.Nat.{sub-zero}
 use mathlib.Core.List.{List, [], _∷_}
 use lib.ListN.{length, replicate}
-use Rattle.lexer.specs.Table.{tokenRoom, rowsOf}
-use Rattle.grammar.specs.Grammars.{part, row, Names}
+use Rattle.lexer.specs.Table.{tokenRoom}
+use Rattle.lexer.specs.internal.TokenRows.{rowsOf}
+use Rattle.grammar.specs.Grammars.{derived, givesRow, Names}
 use Rattle.grammar.specs.internal.Nonterminals.{type}
 use Rattle.grammar.specs.Nurl.{productions}
 use Rattle.grammar.specs.Languages.{language17}
@@ -13,14 +14,14 @@ use Rattle.parser.proofs.Laws.After.{After, after-within, within-small,
 use Rattle.parser.proofs.Laws.Views.{names-fixed}
 use Rattle.parser.proofs.Laws.Readers.{level-below, closing, closed-by, operand}
 use Rattle.parser.proofs.Laws.Types.{type-operator}
-use Prim.Native.Nat.{ℕ, _-_, _≤_}
-use native.Mathlib.Omega.{arith}
 use Rattle.parser.proofs.types.type_operator.Reads as type-operator
 use Rattle.parser.proofs.steps.open_row.Reads as open-row-reads
 use Rattle.parser.proofs.types.read_type.Reads as read-type
 use Rattle.parser.proofs.steps.close_row.Reads as close-row-reads
 use Rattle.parser.proofs.types.+parenthesized+read_type+type_operator+types.Lts-type_operator as lts
 use Rattle.parser.proofs.types.+parenthesized+read_type+type_operator+types.Proof.Given as given
+use Prim.Native.Nat.{ℕ, _-_, _≤_}
+use native.Mathlib.Omega.{arith}
 
 abbrev cs : ℕ → lts.Claims
 cs t = (
@@ -35,8 +36,8 @@ cs t = (
 abbrev Inv-loop : lts.InvT-loop
 Inv-loop tokens rows₀ from left count kind step₀ done₀ rows step done =
     (done ≤ count) × (length rows ≡ length rows₀) × ((source : List ℕ) (e : Names) →
-    After productions (viewOf language17 source (rowsOf tokens)) (tokenRoom tokens) e left (left - 1) (row kind) 1 0 (part type ∷ [])
-    (replicate (count - done) (part type)) from rows₀ step rows)
+    After productions (viewOf language17 source (rowsOf tokens)) (tokenRoom tokens) e left (left - 1) (givesRow kind) 1 0 (derived type ∷ [])
+    (replicate (count - done) (derived type)) from rows₀ step rows)
 
 abbrev μ-loop : lts.MeasureT-loop
 μ-loop tokens rows₀ from left count kind step₀ done₀ rows step done = count - done

@@ -2,8 +2,9 @@
 use mathlib.Core.Path.{_≡_, refl, _∙_, sym}
 use mathlib.Core.List.{List, [], _∷_}
 use lib.ListN.{length}
-use Rattle.lexer.specs.Table.{tokenRoom, rowsOf}
-use Rattle.grammar.specs.Grammars.{part, noRow, Names}
+use Rattle.lexer.specs.Table.{tokenRoom}
+use Rattle.lexer.specs.internal.TokenRows.{rowsOf}
+use Rattle.grammar.specs.Grammars.{derived, noRow, Names}
 use Rattle.grammar.specs.internal.Nonterminals.{types as typeList, type}
 use Rattle.grammar.specs.Nurl.{productions}
 use Rattle.grammar.specs.Languages.{language17}
@@ -13,14 +14,14 @@ use Rattle.parser.proofs.Laws.Views.{names-fixed}
 use Rattle.parser.proofs.Laws.Loops.{ahead, reads-falls, begins-kind}
 use Rattle.parser.proofs.Laws.Openings.{no-type}
 use Rattle.parser.proofs.Laws.Types.{types-go, types-end}
-use Prim.Native.Nat.{ℕ}
-use native.Mathlib.Omega.{arith}
-use borrow.Author.Needs.{needs}
 use Rattle.parser.proofs.types.types.Reads as types
 use Rattle.parser.proofs.types.begins_type.Reads as begins-type-reads
 use Rattle.parser.proofs.types.read_type.Reads as read-type
 use Rattle.parser.proofs.types.+parenthesized+read_type+type_operator+types.Lts-types as lts
 use Rattle.parser.proofs.types.+parenthesized+read_type+type_operator+types.Proof.Given as given
+use Prim.Native.Nat.{ℕ}
+use native.Mathlib.Omega.{arith}
+use borrow.Author.Needs.{needs}
 
 abbrev cs : ℕ → lts.Claims
 cs t = (begins-type-reads.Asked, begins-type-reads.Learnt, given.read-type-below t, read-type.Post)
@@ -28,8 +29,8 @@ cs t = (begins-type-reads.Asked, begins-type-reads.Learnt, given.read-type-below
 abbrev Inv-loop : lts.InvT-loop
 Inv-loop tokens rows₀ left step₀ rows step =
     (length rows ≡ length rows₀) × ((source : List ℕ) (e : Names) →
-    After productions (viewOf language17 source (rowsOf tokens)) (tokenRoom tokens) e left left noRow 0 0 (part typeList ∷ [])
-    (part typeList ∷ []) step₀ rows₀ step rows)
+    After productions (viewOf language17 source (rowsOf tokens)) (tokenRoom tokens) e left left noRow 0 0 (derived typeList ∷ [])
+    (derived typeList ∷ []) step₀ rows₀ step rows)
 
 abbrev μ-loop : lts.MeasureT-loop
 μ-loop tokens rows₀ left step₀ rows step = ahead tokens step

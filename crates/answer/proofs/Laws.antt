@@ -1,0 +1,5 @@
+-- Laws of the answer, and examples of it.
+pub mod Answers
+pub mod Examples
+pub mod Lists17
+pub mod WrongReaders

@@ -1,0 +1,156 @@
+-- The readers that document 01 will not accept, and that each violates the demand that is named for it. Assumes nothing.
+use Prim.Native.Nat.{ℕ, suc, _*_}
+use mathlib.Core.Path.{_≡_, refl, sym, _∙_, ap}
+use mathlib.Core.List.{List, [], _∷_, _++_}
+use native.Mathlib.Omega.{arith}
+use lib.ListN.{length, take, drop, getD}
+use Rattle.lexer.specs.Text.{bytes}
+use Rattle.lexer.specs.internal.Kinds.{colon}
+use Rattle.lexer.specs.Editions.{edition17}
+use Rattle.lexer.specs.Tokens.{Token, cleanly, scan}
+use Rattle.lexer.specs.Table.{tokenRow, tokenRows, filled}
+use Rattle.lexer.proofs.Laws.Examples.{scans}
+use Rattle.lexer.proofs.Laws.Scans.{found-once}
+use Rattle.tree.specs.internal.RowKinds.{functionRow}
+use Rattle.tree.specs.TreeTable.{treeWidth, placed, cleared}
+use Rattle.grammar.specs.Languages.{language17}
+use Rattle.answer.specs.Answers.{Result, answer17}
+use Rattle.answer.specs.Demands.{Acceptance, Reader, MeetsDemands}
+use Rattle.answer.specs.Examples.{tokenFrom, node, lentTokens, lentRows}
+use Rattle.answer.specs.declared.Answer.{Answer}
+use Rattle.answer.specs.declared.Answer.the-variants.{Accepted, Refused}
+use Rattle.answer.proofs.Laws.Examples.{answersTo}
+use Rattle.answer.proofs.Theorem.{answer-meets}
+
+-- the sources that tell: M1, M2, and two declarations
+floor : List ℕ
+unfolding bytes
+floor = bytes ": i floor -40"
+
+two : List ℕ
+unfolding bytes
+two = bytes ": Foo { } @ g → v { }"
+
+abbrev floorTokens : List Token
+floorTokens = tokenFrom ":" 0 1 ∷ tokenFrom "keyword" 2 1 ∷ tokenFrom "IDENT" 4 5 ∷ tokenFrom "INT" 10 3 ∷ []
+
+empty-accepted : answer17 [] [] lentTokens lentRows .answer ≡ Accepted 0 1
+unfolding answersTo
+empty-accepted = refl
+
+floor-accepted : answer17 floor [] lentTokens lentRows .answer ≡ Accepted 4 4
+unfolding answersTo floor
+floor-accepted = refl
+
+two-accepted : answer17 two [] lentTokens lentRows .answer ≡ Accepted 10 5
+unfolding answersTo two
+two-accepted = refl
+
+-- what acceptance says of the empty source
+empty : Acceptance language17 [] [] 200 lentTokens lentRows 0 1
+    (answer17 [] [] lentTokens lentRows .tokens) (answer17 [] [] lentTokens lentRows .rows)
+empty = answer-meets [] [] lentTokens lentRows .demand2 .accepted 0 1 empty-accepted
+
+empty-tokens : scan edition17 [] ≡ cleanly []
+unfolding scans
+empty-tokens = refl
+
+floor-tokens : scan edition17 floor ≡ cleanly floorTokens
+unfolding scans floor
+floor-tokens = refl
+
+-- one that refuses all violates `accepts`
+abbrev refusesAll : Reader
+refusesAll source names tokens rows =
+    record { answer = Refused 6 0; tokens = filled source (scan edition17 source .found) tokens; rows = cleared rows }
+
+pub refuses-all-violates : MeetsDemands refusesAll → ⊥
+refuses-all-violates meets =
+    let due = meets [] [] lentTokens lentRows .demand3 .accepts (empty .token-list) (empty .row-list) (empty .readable) (empty .room) (empty .derived) in
+    let same = ap (λ (r : Result). r .answer) due in
+    let z : _≡_ {A = ℕ} 0 1 = cc in
+    absurd (omega arith)
+
+-- one that answers M1 for every source violates `accepted`, by its token count
+abbrev answersM1 : Reader
+answersM1 source names tokens rows =
+    record { answer = Accepted 0 1; tokens = tokens; rows = placed (node "program" 0 0 1 ∷ []) rows }
+
+pub answers-M1-violates : MeetsDemands answersM1 → ⊥
+answers-M1-violates meets =
+    let said = meets floor [] lentTokens lentRows .demand2 .accepted 0 1 refl in
+    let count = said .token-count in
+    let list = found-once (scan edition17 floor) (said .token-list) floorTokens (said .readable .scans) floor-tokens in
+    let four : _≡_ {A = ℕ} 0 4 = rw list at count in
+    absurd (omega arith)
+
+-- one that never writes violates `accepted`, by the token table
+abbrev neverWrites : Reader
+neverWrites source names tokens rows = record { answer = answer17 source names tokens rows .answer; tokens = tokens; rows = rows }
+
+floor-written : (ts : List Token) → ts ≡ floorTokens
+    → lentTokens ≡ filled floor ts lentTokens → ⊥
+unfolding filled tokenRow tokenRows lentTokens
+floor-written ts list table =
+    let first : getD (filled floor ts lentTokens) 0 0 ≡ colon = rw list refl in
+    let kept = ap (λ (numbers : List ℕ). getD numbers 0 0) table in
+    absurd (omega arith)
+
+pub never-writes-violates : MeetsDemands neverWrites → ⊥
+never-writes-violates meets =
+    let said = meets floor [] lentTokens lentRows .demand2 .accepted 4 4 floor-accepted in
+    let list = found-once (scan edition17 floor) (said .token-list) floorTokens (said .readable .scans) floor-tokens in
+    floor-written (said .token-list) list (said .token-table)
+
+-- one that reads the first declaration and invents the others, here by leaving them out, violates `accepted`, by its rows
+abbrev readsFirst : Reader
+readsFirst source names tokens rows =
+    let r = answer17 source names tokens rows in
+    record { answer = r .answer; tokens = r .tokens; rows = take (2 * treeWidth) (r .rows) ++ drop (2 * treeWidth) rows }
+
+two-written : getD (answer17 two [] lentTokens lentRows .rows) 8 0 ≡ functionRow
+unfolding answersTo two
+two-written = refl
+
+two-kept : getD (readsFirst two [] lentTokens lentRows .rows) 8 0 ≡ 7
+unfolding answersTo two
+two-kept = refl
+
+pub reads-first-violates : MeetsDemands readsFirst → ⊥
+reads-first-violates meets =
+    let said = meets two [] lentTokens lentRows .demand2 .accepted 10 5 two-accepted in
+    let due = answer-meets two [] lentTokens lentRows .demand3 .only 10 5 two-accepted (said .token-list) (said .readable) 200
+    (said .row-list) (said .derived) in
+    let same = ap (λ (r : Result). getD (r .rows) 8 0) due ∙ sym (ap (λ (numbers : List ℕ). getD numbers 8 0) (said .row-table)) in
+    let written = two-written in
+    let kept = two-kept in
+    absurd (omega arith)
+
+-- one that reports invented row counts violates `accepted` for tokens and `only` for the tree
+abbrev counted : (ℕ → ℕ) → (ℕ → ℕ) → Answer → Answer
+counted f g (Accepted tokens rows) = Accepted (f tokens) (g rows)
+counted f g (Refused number place) = Refused number place
+
+abbrev inventsCounts : (ℕ → ℕ) → (ℕ → ℕ) → Reader
+inventsCounts f g source names tokens rows =
+    let r = answer17 source names tokens rows in
+    record { answer = counted f g (r .answer); tokens = r .tokens; rows = r .rows }
+
+pub invents-tokens-violates : MeetsDemands (inventsCounts suc (λ n. n)) → ⊥
+invents-tokens-violates meets =
+    let said = meets [] [] lentTokens lentRows .demand2 .accepted 1 1 (rw empty-accepted refl) in
+    let count = said .token-count in
+    let list = found-once (scan edition17 []) (said .token-list) [] (said .readable .scans) empty-tokens in
+    let none : _≡_ {A = ℕ} 1 0 = rw list at count in
+    absurd (omega arith)
+
+pub invents-rows-violates : MeetsDemands (inventsCounts (λ n. n) suc) → ⊥
+invents-rows-violates meets =
+    let due = meets [] [] lentTokens lentRows .demand3 .only 0 2 (rw empty-accepted refl) (empty .token-list) (empty .readable) 200
+    (empty .row-list) (empty .derived) in
+    let answers : counted (λ n. n) suc (answer17 [] [] lentTokens lentRows .answer)
+    ≡ Accepted (length (empty .token-list)) (length (empty .row-list)) = ap (λ (r : Result). r .answer) due in
+    let said : Accepted 0 2 ≡ Accepted (length (empty .token-list)) (length (empty .row-list)) = rw empty-accepted at answers in
+    let rows = empty .row-count in
+    let z : _≡_ {A = ℕ} 2 1 = cc in
+    absurd (omega arith)

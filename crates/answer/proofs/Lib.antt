@@ -1,0 +1,3 @@
+-- What is proved of the answer.
+pub mod Theorem
+pub mod Laws

@@ -1,0 +1,3 @@
+-- Laws of the tree table.
+pub mod RowKinds
+pub mod Trees

@@ -1,0 +1,2 @@
+-- What is proved of the tree table.
+pub mod Laws

@@ -1,0 +1,42 @@
+// The tree table: the one place that knows how wide its rows are.
+ghost use mathlib.Core.Path.{_≡_};
+ghost use Prim.Native.Nat.{_<_, _^_};
+ghost use Rattle.tree.specs.TreeTable.{treeRoom, cleared};
+ghost use Rattle.tree.specs.internal.Trees.{putRow};
+
+// The numbers in a row: its kind, first token, tokens covered and rows in its subtree.
+pub const WIDTH: usize = 4;
+
+// How many whole rows the table has.
+pub fn room(table: &[u32]) -> usize
+    ensures { λ r. ⌜ r ≡ treeRoom (now (table .entry)) ⌝ }
+{
+    table.len() / WIDTH
+}
+
+// Writes a row of the tree, where the table has room for it.
+pub fn put_row(rows: &mut [u32], row: usize, kind: u32, first: usize, cover: usize, count: usize)
+    requires { ⌜ (first < 2 ^ 32) × (cover < 2 ^ 32) × (count < 2 ^ 32) ⌝ }
+    ensures { λ r. ⌜ now (rows .exit)
+        ≡ putRow row (record { kind = kind; first = first; cover = cover; count = count }) (now (rows .entry)) ⌝ }
+{
+    if row < rows.len() / WIDTH {
+        let at = row * WIDTH;
+        rows[at] = kind;
+        rows[at + 1] = first as u32;
+        rows[at + 2] = cover as u32;
+        rows[at + 3] = count as u32;
+    }
+}
+
+// Makes all whole rows zero.
+pub fn clear(rows: &mut [u32])
+    ensures { λ r. ⌜ now (rows .exit) ≡ cleared (now (rows .entry)) ⌝ }
+{
+    let end = rows.len() / WIDTH * WIDTH;
+    let mut i = 0;
+    while i < end {
+        rows[i] = 0;
+        i += 1;
+    }
+}
