@@ -3,6 +3,7 @@ pub mod Tests
 pub mod Text
 pub mod Names
 pub mod Kinds
+pub mod Refusals
 pub mod Bytes
 pub mod Spellings
 pub mod Editions

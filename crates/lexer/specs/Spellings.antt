@@ -2,12 +2,12 @@
 use Prim.Native.Nat.{ℕ, max}
 use Prim.Native.String.{String}
 use mathlib.Core.Bool.{Bool, true, false}
-use mathlib.Core.List.{List, [], _∷_, _++_, map}
+use mathlib.Core.List.{List, [], _∷_, map}
 use lib.Dec.{eqb}
-use lib.ListN.{length, take, drop}
+use lib.ListN.{length}
 use Rattle.lexer.specs.Tests.{and, pick}
 use Rattle.lexer.specs.Text.{bytes}
-use Rattle.lexer.specs.Kinds.{tokenKinds, tokenKind}
+use Rattle.lexer.specs.Kinds.{tokenKind}
 
 pub record Spelling : Type 0 where
   pub text : List ℕ
@@ -42,12 +42,7 @@ reserved =
     "i" is "keyword" ∷ "u" is "keyword" ∷ "f" is "keyword" ∷ "b" is "keyword" ∷ "s" is "keyword" ∷ "v" is "keyword" ∷
     "T" is "boolean" ∷ "F" is "boolean" ∷ "Z" is "Z" ∷ []
 
--- Kinds 8 to 42 are marks, which are spelled as they are called. Those that every edition has:
-unfoldable pub commonMarks : List Spelling
+-- a mark is spelled as it is called
+unfoldable pub spelledMarks : List String → List Spelling
 unfolding _is_
-commonMarks = map (λ (s : String). s is s) (take 31 (drop 7 tokenKinds) ++ drop 40 tokenKinds)
-
--- the marks of 1.7 that 1.1 does not have
-unfoldable pub shiftMarks : List Spelling
-unfolding _is_
-shiftMarks = "<<" is "<<" ∷ ">>" is ">>" ∷ []
+spelledMarks names = map (λ (s : String). s is s) names

@@ -4,6 +4,7 @@ pub mod kinds;
 mod lexemes;
 mod marks;
 mod numbers;
+pub mod refusals;
 mod runs;
 mod table;
 mod text;

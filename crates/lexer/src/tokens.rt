@@ -2,6 +2,7 @@
 use crate::Lexeme;
 use crate::Scanned;
 use crate::lexemes;
+use crate::refusals;
 use crate::table;
 use crate::table::TokenRow;
 ghost use mathlib.Core.Path.{_≡_};
@@ -21,7 +22,7 @@ pub fn count_tokens(source: &[u8]) -> Scanned
     ensures values { λ r. ⌜ scannedValues r ≡ countedValues edition17 (now (source .entry)) ⌝ }
 {
     if SOURCE_LIMIT < source.len() {
-        return Scanned::Refused(1, 0);
+        return Scanned::Refused(refusals::LONG_SOURCE, 0);
     }
     let mut at = 0;
     let mut count = 0;
@@ -34,8 +35,8 @@ pub fn count_tokens(source: &[u8]) -> Scanned
                 count += 1;
                 at += len;
             }
-            Lexeme::BadByte => return Scanned::Refused(3, at),
-            Lexeme::OpenString => return Scanned::Refused(4, at),
+            Lexeme::BadByte => return Scanned::Refused(refusals::BAD_BYTE, at),
+            Lexeme::OpenString => return Scanned::Refused(refusals::OPEN_STRING, at),
         }
     }
 }
@@ -78,7 +79,7 @@ pub fn tokenize(source: &[u8], table: &mut [u32]) -> Scanned
         Scanned::Refused(number, place) => Scanned::Refused(number, place),
         Scanned::Tokens(count) => {
             if table::room(table) < count {
-                return Scanned::Refused(5, count);
+                return Scanned::Refused(refusals::FEW_TOKEN_ROWS, count);
             }
             fill(source, table);
             Scanned::Tokens(count)

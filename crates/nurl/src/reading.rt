@@ -1,6 +1,7 @@
 // From bytes to rows: document 01's refusals in their order, or acceptance, and what both tables hold afterwards.
 use answer::Answer;
 use lexer::Scanned;
+use lexer::refusals;
 use parser::Step;
 use typenames::Checked;
 use typenames::Scope;
@@ -13,7 +14,7 @@ ghost use Rattle.lexer.specs.Table.{sourceLimit};
 ghost use Rattle.lexer.specs.internal.TokenRows.{rowsOf};
 ghost use Rattle.typenames.specs.NameList.{nameLimit};
 ghost use Rattle.grammar.specs.Languages.{language17};
-ghost use Rattle.answer.specs.Answers.{values, Result, answer17, answerValues};
+ghost use Rattle.answer.specs.Answers.{levelLimit, values, Result, answer17, answerValues};
 ghost use Rattle.answer.specs.Demands.{Demands};
 ghost use Rattle.nurl.specs.internal.Results.{treeResult};
 
@@ -54,7 +55,7 @@ fn read_tokens(source: &[u8], names: &[u8], tokens: &[u32], rows: &mut [u32]) ->
         Step::Read(count, needed) => {
             if tree::room(rows) < needed {
                 tree::clear(rows);
-                return Answer::Refused(8, needed);
+                return Answer::Refused(refusals::FEW_TREE_ROWS, needed);
             }
             Answer::Accepted(count, needed)
         }
@@ -65,14 +66,14 @@ fn read_tokens(source: &[u8], names: &[u8], tokens: &[u32], rows: &mut [u32]) ->
 pub fn read(source: &[u8], names: &[u8], tokens: &mut [u32], rows: &mut [u32]) -> Answer
     ensures answer { λ r. ⌜ _≡_ {A = Result} (record { answer = r; tokens = now (tokens .exit); rows = now (rows .exit) })
         (answer17 (now (source .entry)) (now (names .entry)) (now (tokens .entry)) (now (rows .entry))) ⌝ }
-    ensures demands { λ r. ⌜ Demands language17 (now (source .entry)) (now (names .entry)) 200
+    ensures demands { λ r. ⌜ Demands language17 (now (source .entry)) (now (names .entry)) levelLimit
         (now (tokens .entry)) (now (rows .entry))
         (record { answer = r; tokens = now (tokens .exit); rows = now (rows .exit) }) ⌝ }
     ensures values { λ r. ⌜ values r
         ≡ answerValues (now (source .entry)) (now (names .entry)) (now (tokens .entry)) (now (rows .entry)) ⌝ }
 {
     if lexer::SOURCE_LIMIT < source.len() {
-        return Answer::Refused(1, 0);
+        return Answer::Refused(refusals::LONG_SOURCE, 0);
     }
     let checked = typenames::check_names(names);
     match checked {

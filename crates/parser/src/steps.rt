@@ -5,9 +5,9 @@ ghost use lib.Dec.{eqb};
 ghost use Rattle.parser.specs.internal.Steps.{Small, Spans, nextKind, refusedAt, takenKind, takenIf, opened, rowLeft, closed};
 
 // The refusals of document 01 that a reading can meet: a token that cannot be taken, and a row that would be too deep.
-pub(crate) const NO_PROGRAM: u32 = 6;
+pub(crate) const NO_PROGRAM: u32 = lexer::refusals::NO_PROGRAM;
 
-pub(crate) const TOO_DEEP: u32 = 7;
+pub(crate) const TOO_DEEP: u32 = lexer::refusals::TOO_DEEP;
 
 // The kind of the place after the last token.
 pub(crate) const END: u32 = 0;

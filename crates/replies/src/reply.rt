@@ -31,7 +31,7 @@ fn answer(script: &[u8], tokens: &mut [u32], rows: &mut [u32]) -> Answer
     ensures tree { λ r. ⌜ now (rows .exit) ≡ deskResult (now (script .entry)) (now (tokens .entry)) (now (rows .entry)) .rows ⌝ }
 {
     if SCRIPT_LIMIT < script.len() {
-        return Answer::Refused(1, 0);
+        return Answer::Refused(lexer::refusals::LONG_SOURCE, 0);
     }
     nurl::read(script, b"", tokens, rows)
 }

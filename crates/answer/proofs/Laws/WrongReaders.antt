@@ -14,7 +14,7 @@ use Rattle.lexer.proofs.Laws.Scans.{found-once}
 use Rattle.tree.specs.internal.RowKinds.{functionRow}
 use Rattle.tree.specs.TreeTable.{treeWidth, placed, cleared}
 use Rattle.grammar.specs.Languages.{language17}
-use Rattle.answer.specs.Answers.{Result, answer17}
+use Rattle.answer.specs.Answers.{levelLimit, Result, answer17}
 use Rattle.answer.specs.Demands.{Acceptance, Reader, MeetsDemands}
 use Rattle.answer.specs.Examples.{tokenFrom, node, lentTokens, lentRows}
 use Rattle.answer.specs.declared.Answer.{Answer}
@@ -47,7 +47,7 @@ unfolding answersTo two
 two-accepted = refl
 
 -- what acceptance says of the empty source
-empty : Acceptance language17 [] [] 200 lentTokens lentRows 0 1
+empty : Acceptance language17 [] [] levelLimit lentTokens lentRows 0 1
     (answer17 [] [] lentTokens lentRows .tokens) (answer17 [] [] lentTokens lentRows .rows)
 empty = answer-meets [] [] lentTokens lentRows .demand2 .accepted 0 1 empty-accepted
 

@@ -7,7 +7,7 @@ use native.Mathlib.Omega.{arith}
 use native.Mathlib.Nat.{zero-add, add-zero}
 use lib.ListN.{length, drop, length-drop}
 use Rattle.lexer.specs.Tests.{and}
-use Rattle.lexer.specs.Spellings.{commonMarks, shiftMarks}
+use Rattle.lexer.specs.Spellings.{spelledMarks}
 use Rattle.lexer.specs.Editions.{edition17}
 use Rattle.lexer.specs.Lexemes.{lexeme}
 use Rattle.lexer.specs.Tokens.{Token, Ending, clean, fault, Scan, withToken, scan}
@@ -21,7 +21,7 @@ use Rattle.lexer.proofs.Laws.Scans.{scanFrom, scan-end, scan-skip, scan
 
 -- the marks of 1.7 are spelled
 pub spelled17 : spelled (edition17 .marks) ≡ true
-unfolding and commonMarks shiftMarks
+unfolding and spelledMarks
 spelled17 = refl
 
 -- so many tokens more

@@ -3,7 +3,7 @@ use mathlib.Core.Path.{_≡_, refl}
 use mathlib.Core.List.{map}
 use Rattle.lexer.specs.Tests.{and, or, between}
 use Rattle.lexer.specs.Bytes.{isSpace, isDigit, isLetter, isWordByte, isInLine, isInString, beginsEither, run}
-use Rattle.lexer.specs.Spellings.{same, kindOf, longest, reserved, commonMarks, shiftMarks}
+use Rattle.lexer.specs.Spellings.{same, kindOf, longest, reserved, spelledMarks}
 use Rattle.lexer.specs.Editions.{Edition, edition17}
 use Rattle.lexer.specs.Words.{wordLength, orIdent, wordKind, identLength, twoColons, joins}
 use Rattle.lexer.specs.Numbers.{withDigits, fraction, sign, exponent}
@@ -15,7 +15,7 @@ use Rattle.lexer.specs.Examples.{Example, examples}
 -- `scan`, opened down to its parts: whoever computes with the lexical rules unfolds this one name
 unfoldable pub scans : Edition → Example → Scan
 unfolding and or between isSpace isDigit isLetter isWordByte isInLine isInString beginsEither run same kindOf longest
-    reserved commonMarks shiftMarks wordLength orIdent wordKind identLength twoColons joins withDigits fraction
+    reserved spelledMarks wordLength orIdent wordKind identLength twoColons joins withDigits fraction
     sign exponent skippedSpaces spaces comment wordOf word numberOf unsignedNumber withMinus number text markOf
     markUpTo mark orElse lexeme lexemeSize follow lexemesWithin lexemes withToken located scan
 scans e x = scan e (x .source)

@@ -13,7 +13,7 @@ use lib.Seq.{drop-drop}
 use Rattle.lexer.specs.Tests.{and, or, pick}
 use Rattle.lexer.specs.internal.Kinds.{ident, string, minus, slash}
 use Rattle.lexer.specs.Bytes.{isSpace, isDigit, isLetter, isInLine, isInString, run, beginsEither}
-use Rattle.lexer.specs.Spellings.{same, kindOf, longest, commonMarks, shiftMarks}
+use Rattle.lexer.specs.Spellings.{same, kindOf, longest, spelledMarks}
 use Rattle.lexer.specs.Editions.{Edition, edition17}
 use Rattle.lexer.specs.Lexemes.{skippedSpaces, spaces, comment, wordOf, word, numberOf, unsignedNumber, withMinus, number, text}
 use Rattle.lexer.specs.Lexemes.{markOf, markUpTo, mark, orElse, lexeme}
@@ -155,13 +155,13 @@ module _ (e : Edition) (b : ℕ) (t : List ℕ) (byte : b < 256) where
 
 -- `-` and `/` begin no longer mark
 pub mark-minus : (t : List ℕ) → mark edition17 (code "-" ∷ t) ≡ Token minus 1
-unfolding and mark markUpTo markOf kindOf same commonMarks shiftMarks longest
+unfolding and mark markUpTo markOf kindOf same spelledMarks longest
 mark-minus [] = refl
 mark-minus (b ∷ []) = simp and-false
 mark-minus (b ∷ c ∷ t) = simp and-false
 
 pub mark-slash : (t : List ℕ) → mark edition17 (code "/" ∷ t) ≡ Token slash 1
-unfolding and mark markUpTo markOf kindOf same commonMarks shiftMarks longest
+unfolding and mark markUpTo markOf kindOf same spelledMarks longest
 mark-slash [] = refl
 mark-slash (b ∷ []) = simp and-false
 mark-slash (b ∷ c ∷ t) = simp and-false

@@ -13,7 +13,7 @@ use lib.ListN.{length, take, drop}
 use borrow.Author.Tests.{eqb-true, ne-eqb, ltb-true, ltb-false}
 use Rattle.lexer.specs.Tests.{and, or, between, pick}
 use Rattle.lexer.specs.Bytes.{isSpace, isDigit, isLetter, isInLine, beginsEither, begins, run}
-use Rattle.lexer.specs.Spellings.{Spelling, same, kindOf, longest, commonMarks, shiftMarks}
+use Rattle.lexer.specs.Spellings.{Spelling, same, kindOf, longest, spelledMarks}
 use Rattle.lexer.specs.Editions.{Edition, edition17}
 use Rattle.lexer.specs.Words.{wordLength}
 use Rattle.lexer.specs.Lexemes.{skippedSpaces, spaces, comment, wordOf, word, numberOf, unsignedNumber, withMinus}
@@ -392,7 +392,7 @@ lexeme-longest e own (b ∷ t) = longest-cons e own b t
 
 -- the marks of 1.7 are such
 pub separate17 : separate (edition17 .marks) ≡ true
-unfolding separate ownMark taken shared and or between isSpace isLetter isDigit commonMarks shiftMarks
+unfolding separate ownMark taken shared and or between isSpace isLetter isDigit spelledMarks
 separate17 = refl
 
 pub longest17 : (s : List ℕ) → Longest edition17 s

@@ -9,7 +9,7 @@ use lib.Seq.{getD-drop}
 use borrow.Author.Tests.{ne-eqb}
 use Rattle.lexer.specs.Tests.{and}
 use Rattle.lexer.specs.internal.Kinds.{arrow}
-use Rattle.lexer.specs.Spellings.{same, kindOf, longest, commonMarks, shiftMarks}
+use Rattle.lexer.specs.Spellings.{same, kindOf, longest, spelledMarks}
 use Rattle.lexer.specs.Editions.{edition17}
 use Rattle.lexer.specs.Lexemes.{markOf, markUpTo, mark}
 use Rattle.lexer.specs.declared.Lexeme.{Lexeme}
@@ -30,7 +30,7 @@ mark-lost (suc k) n other h = absurd (omega arith)
 
 -- the longest mark has three bytes
 longest17 : longest (edition17 .marks) ≡ 3
-unfolding longest commonMarks shiftMarks
+unfolding longest spelledMarks
 longest17 = refl
 
 -- asking again changes nothing
@@ -75,18 +75,18 @@ module _ (a b c : ℕ) where
 
 -- where the first byte is not that of `→`, two bytes decide, and a 0 stands for one that is not there
 pub two-enough : (a : ℕ) (t : List ℕ) → (a ≡ 0xE2 → ⊥) → mark edition17 (a ∷ t) ≡ mark edition17 (a ∷ getD t 0 0 ∷ [])
-unfolding kindOf same commonMarks shiftMarks and
+unfolding kindOf same spelledMarks and
 two-enough a [] h = sym (two-lost a 0 refl)
 two-enough a (b ∷ []) h = refl
 two-enough a (b ∷ c ∷ t) h = three-only a b c t ∙ three-lost a b c (rw (ne-eqb _ _ h, and-false))
 
 -- .. and where it is, only `→` fits
 arrow-mark : mark edition17 (0xE2 ∷ 0x86 ∷ 0x92 ∷ []) ≡ Token arrow 3
-unfolding mark markUpTo markOf longest kindOf same commonMarks shiftMarks and
+unfolding mark markUpTo markOf longest kindOf same spelledMarks and
 arrow-mark = refl
 
 no-more : (b : ℕ) → mark edition17 (0xE2 ∷ b ∷ []) ≡ BadByte
-unfolding kindOf same commonMarks shiftMarks and
+unfolding kindOf same spelledMarks and
 no-more b = two-lost 0xE2 b (simp and-false) ∙ one-lost 0xE2 refl
 
 arrow-found : (t : List ℕ) → getD t 0 0 ≡ 0x86 → getD t 1 0 ≡ 0x92 → mark edition17 (0xE2 ∷ t) ≡ Token arrow 3
@@ -95,13 +95,13 @@ arrow-found (b ∷ []) p q = absurd (omega arith)
 arrow-found (b ∷ c ∷ t) p q = three-only 0xE2 b c t ∙ rw (p, q) arrow-mark
 
 arrow-none : (t : List ℕ) → (getD t 0 0 ≡ 0x86 → ⊥) → mark edition17 (0xE2 ∷ t) ≡ BadByte
-unfolding kindOf same commonMarks shiftMarks and
+unfolding kindOf same spelledMarks and
 arrow-none [] h = one-lost 0xE2 refl
 arrow-none (b ∷ []) h = no-more b
 arrow-none (b ∷ c ∷ t) h = three-only 0xE2 b c t ∙ three-lost 0xE2 b c (rw (ne-eqb b 0x86 h, and-false)) ∙ no-more b
 
 arrow-cut : (t : List ℕ) → (getD t 1 0 ≡ 0x92 → ⊥) → mark edition17 (0xE2 ∷ t) ≡ BadByte
-unfolding kindOf same commonMarks shiftMarks and
+unfolding kindOf same spelledMarks and
 arrow-cut [] h = one-lost 0xE2 refl
 arrow-cut (b ∷ []) h = no-more b
 arrow-cut (b ∷ c ∷ t) h = three-only 0xE2 b c t ∙ three-lost 0xE2 b c (rw (ne-eqb c 0x92 h)) ∙ no-more b
@@ -128,5 +128,5 @@ module _ (s : List ℕ) (at : ℕ) (inside : at < length s) (there : getD s at 0
   arrow-cut-at h = rw begun (arrow-cut _ (λ e. h (sym (getD-drop (at + 1) s 1 0) ∙ e)))
 
 pub mark-nil : mark edition17 [] ≡ BadByte
-unfolding mark markUpTo markOf kindOf same commonMarks shiftMarks and
+unfolding mark markUpTo markOf kindOf same spelledMarks and
 mark-nil = rw longest17

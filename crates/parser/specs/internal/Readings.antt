@@ -3,6 +3,7 @@ use Prim.Native.Nat.{ℕ, _+_, _*_, _≤_}
 use mathlib.Core.Path.{_≡_}
 use mathlib.Core.List.{List, [], _∷_}
 use lib.ListN.{length}
+use Rattle.lexer.specs.Refusals.{refusal}
 use Rattle.lexer.specs.Table.{tokenRoom}
 use Rattle.lexer.specs.internal.TokenRows.{rowsOf}
 use Rattle.lexer.specs.Items.{items}
@@ -35,10 +36,10 @@ pub data Reads (g : List Production) (v : View) (count : ℕ) (e : Names) (n lea
       → Reads g v count e n least more ss (Read i r) table (Read j k) after
   -- a token that the reading cannot take
   refused6 : {i r place : ℕ} {table after : List ℕ} → Gives g v e n ss i (stuck place) → length after ≡ length table
-      → Reads g v count e n least more ss (Read i r) table (Refused 6 place) after
+      → Reads g v count e n least more ss (Read i r) table (Refused (refusal "no program") place) after
   -- a token where the reading is too deep
   refused7 : {i r place : ℕ} {table after : List ℕ} → Gives g v e n ss i (deep place) → length after ≡ length table
-      → Reads g v count e n least more ss (Read i r) table (Refused 7 place) after
+      → Reads g v count e n least more ss (Read i r) table (Refused (refusal "too deep") place) after
   -- an earlier refusal
   refusedBefore : {number place : ℕ} {table after : List ℕ} → length after ≡ length table
       → Reads g v count e n least more ss (Refused number place) table (Refused number place) after

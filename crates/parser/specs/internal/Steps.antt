@@ -5,6 +5,7 @@ use mathlib.Core.Bool.{Bool, true, false}
 use mathlib.Core.List.{List, [], _∷_}
 use lib.Dec.{eqb, ltb}
 use lib.ListN.{drop}
+use Rattle.lexer.specs.Refusals.{refusal}
 use Rattle.lexer.specs.Tests.{and, between, pick, among}
 use Rattle.lexer.specs.internal.Kinds.{ident, keyword, boolean, firstKind, lastKind}
 use Rattle.lexer.specs.Table.{sourceLimit, tokenRoom}
@@ -83,7 +84,7 @@ refusedAt number (Refused earlier place) = Refused earlier place
 
 -- the next token taken, if it passes a test
 unfoldable pub takenBy : (ℕ → Bool) → Step → Step
-takenBy test (Read at row) = pick (test at) (Read (at + 1) row) (Refused 6 at)
+takenBy test (Read at row) = pick (test at) (Read (at + 1) row) (Refused (refusal "no program") at)
 takenBy test (Refused number place) = Refused number place
 
 -- .. if it is of this kind
