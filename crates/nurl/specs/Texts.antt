@@ -1,12 +1,12 @@
 -- The text of an answer, as the desk program prints it, and what a lent output holds when a text is written into it.
 use Prim.Native.Char.{code}
-use Prim.Native.Nat.{ℕ, zero, suc, _+_, _*_, _/_, _%_, min}
+use Prim.Native.Nat.{ℕ, zero, suc, _+_, _/_, _%_, min}
 use mathlib.Core.List.{List, [], _∷_, _++_}
 use lib.Dec.{leb, ltb}
-use lib.ListN.{length, take, drop, getD}
+use lib.ListN.{length, take, drop}
 use Rattle.lexer.specs.Tests.{pick}
 use Rattle.lexer.specs.Text.{bytes}
-use Rattle.tree.specs.TreeTable.{treeWidth, treeRoom}
+use Rattle.tree.specs.TreeTable.{Row, treeRoom, treeRowAt}
 use Rattle.answer.specs.declared.Answer.{Answer}
 use Rattle.answer.specs.declared.Answer.the-variants.{Accepted, Refused}
 use Rattle.nurl.specs.declared.Written.{Written}
@@ -41,17 +41,16 @@ numberText n end = decimal n ++ (end ∷ [])
 abbrev pub line : List ℕ → ℕ → ℕ → List ℕ
 line word a b = word ++ (numberText a space ++ numberText b newline)
 
--- the line of a row of a tree table
-abbrev pub rowLine : List ℕ → ℕ → List ℕ
-rowLine table r =
-    let at = r * treeWidth in
-    let third = numberText (getD table (at + 2) 0) space ++ numberText (getD table (at + 3) 0) newline in
-    numberText (getD table at 0) space ++ (numberText (getD table (at + 1) 0) space ++ third)
+-- the line of a row
+abbrev pub rowLine : Row → List ℕ
+rowLine r =
+    let last = numberText (r .cover) space ++ numberText (r .count) newline in
+    numberText (r .kind) space ++ (numberText (r .first) space ++ last)
 
--- the lines of its first rows, so many of them
+-- the lines of the first rows of a tree table, so many of them
 unfoldable pub rowLines : List ℕ → ℕ → List ℕ
 rowLines table zero = []
-rowLines table (suc n) = rowLines table n ++ rowLine table n
+rowLines table (suc n) = rowLines table n ++ rowLine (treeRowAt table n)
 
 -- a line `accepted T R` and then a line for each of the R rows, or one line `refused N P`; a table with fewer whole rows has no more
 -- to print

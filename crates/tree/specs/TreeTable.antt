@@ -1,7 +1,9 @@
 -- The tree table: its rows, and what it holds when rows are put into it or when it is cleared.
-use Prim.Native.Nat.{ℕ, _*_, _/_}
+use Prim.Native.Nat.{ℕ, _+_, _*_, _/_}
 use mathlib.Core.List.{List, [], _∷_, _++_}
-use lib.ListN.{length, drop, replicate}
+use lib.Dec.{ltb}
+use lib.ListN.{length, drop, getD, replicate}
+use Rattle.lexer.specs.Tests.{pick}
 
 -- "kind, first token, tokens covered, rows in the subtree with itself"
 pub record Row : Type 0 where
@@ -33,3 +35,12 @@ placed rs table = treeRows rs ++ drop (length rs * treeWidth) table
 -- "whole rows all zero"; "numbers past the last whole row are never touched"
 unfoldable pub cleared : List ℕ → List ℕ
 cleared table = replicate (treeRoom table * treeWidth) 0 ++ drop (treeRoom table * treeWidth) table
+
+-- the number in a column of a row, 0 past the whole rows
+unfoldable pub columnAt : List ℕ → ℕ → ℕ → ℕ
+columnAt table r column = pick (ltb r (treeRoom table)) (getD table (r * treeWidth + column) 0) 0
+
+-- what a row of a table says
+abbrev pub treeRowAt : List ℕ → ℕ → Row
+treeRowAt table r =
+    record { kind = columnAt table r 0; first = columnAt table r 1; cover = columnAt table r 2; count = columnAt table r 3 }

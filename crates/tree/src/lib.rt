@@ -4,5 +4,9 @@ mod table;
 
 pub use table::WIDTH;
 pub use table::clear;
+pub use table::count_at;
+pub use table::cover_at;
+pub use table::first_at;
+pub use table::kind_at;
 pub use table::put_row;
 pub use table::room;

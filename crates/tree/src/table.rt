@@ -1,7 +1,7 @@
 // The tree table: the one place that knows how wide its rows are.
 ghost use mathlib.Core.Path.{_≡_};
 ghost use Prim.Native.Nat.{_<_, _^_};
-ghost use Rattle.tree.specs.TreeTable.{treeRoom, cleared};
+ghost use Rattle.tree.specs.TreeTable.{treeWidth, treeRoom, cleared, columnAt, treeRowAt};
 ghost use Rattle.tree.specs.internal.Trees.{putRow};
 
 // The numbers in a row: its kind, first token, tokens covered and rows in its subtree.
@@ -12,6 +12,45 @@ pub fn room(table: &[u32]) -> usize
     ensures { λ r. ⌜ r ≡ treeRoom (now (table .entry)) ⌝ }
 {
     table.len() / WIDTH
+}
+
+// The number in a column of a row, 0 past the whole rows.
+fn entry_at(table: &[u32], row: usize, column: usize) -> u32
+    requires { ⌜ column < treeWidth ⌝ }
+    ensures { λ r. ⌜ r ≡ columnAt (now (table .entry)) row column ⌝ }
+{
+    if row < table.len() / WIDTH {
+        return table[row * WIDTH + column];
+    }
+    0
+}
+
+// The kind of a row, 0 past the whole rows.
+pub fn kind_at(table: &[u32], row: usize) -> u32
+    ensures { λ r. ⌜ r ≡ treeRowAt (now (table .entry)) row .kind ⌝ }
+{
+    entry_at(table, row, 0)
+}
+
+// The first token that a row covers.
+pub fn first_at(table: &[u32], row: usize) -> u32
+    ensures { λ r. ⌜ r ≡ treeRowAt (now (table .entry)) row .first ⌝ }
+{
+    entry_at(table, row, 1)
+}
+
+// How many tokens a row covers.
+pub fn cover_at(table: &[u32], row: usize) -> u32
+    ensures { λ r. ⌜ r ≡ treeRowAt (now (table .entry)) row .cover ⌝ }
+{
+    entry_at(table, row, 2)
+}
+
+// How many rows the subtree of a row has, with the row itself.
+pub fn count_at(table: &[u32], row: usize) -> u32
+    ensures { λ r. ⌜ r ≡ treeRowAt (now (table .entry)) row .count ⌝ }
+{
+    entry_at(table, row, 3)
 }
 
 // Writes a row of the tree, where the table has room for it.
