@@ -9,9 +9,6 @@ ghost use mathlib.Core.Path.{_≡_};
 ghost use Prim.Native.Nat.{_<_};
 ghost use lib.ListN.{length};
 
-// The numbers in a row of the tree table: kind, first token, tokens covered, rows in the subtree.
-const TREE_WIDTH: usize = 4;
-
 // The two tables: the numbers in a row, and the first number before a case.
 const TOKENS: Layout = Layout {
     width: lexer::WIDTH,
@@ -19,7 +16,7 @@ const TOKENS: Layout = Layout {
 };
 
 const TREE: Layout = Layout {
-    width: TREE_WIDTH,
+    width: tree::WIDTH,
     base: 700000,
 };
 

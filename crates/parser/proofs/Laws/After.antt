@@ -100,7 +100,7 @@ module _ (g : List Production) (v : View) (tokens : List ℕ) (e : Names) (fixed
   pub start : {n more : ℕ} {ts : List Symbol} {s : Step} {t : List ℕ} → Within tokens more s
       → After g v (tokenRoom tokens) e n n noRow 0 more ts ts s t s t
   unfolding levels put
-  start {n} {more} {ts} (inside {at = i} {givesRow = r} a b) =
+  start {n} {more} {ts} (inside {at = i} {row = r} a b) =
       going {i = i} {r = r} {j = i} {k = r} [] (λ (o : Outcome) (d : Gives g v e n ts i o). rw wrapped-nothing d)
       (omega arith) refl (omega arith) a b
   start elsewhere = passedOn refl
@@ -113,7 +113,7 @@ module _ (g : List Production) (v : View) (tokens : List ℕ) (e : Names) (fixed
       → ((i r : ℕ) → s ≡ Read i r → i < tokenRoom tokens)
       → After g v (tokenRoom tokens) e n below m 1 0 (derived x ∷ []) ss s t (opened s) t
   unfolding opened put
-  begun {n} {below} {x} {m} {cs} {ss} (inside {at = i} {givesRow = r} a b) at level chosen first room =
+  begun {n} {below} {x} {m} {cs} {ss} (inside {at = i} {row = r} a b) at level chosen first room =
       let few = room i r refl in
       going {i = i} {r = r} {j = i + 1} {k = r + 1} [] (λ (o : Outcome) (d : Gives g v e below ss (i + 1) o).
       gives-within g v e fixed (record { left = x; makes = m; right = token cs ∷ ss }) (chosen i r refl) (omega arith)
@@ -126,7 +126,7 @@ module _ (g : List Production) (v : View) (tokens : List ℕ) (e : Names) (fixed
       → ((i r : ℕ) → s ≡ Read i r → choice g v e x i ≡ selected (record { left = x; makes = m; right = ss }))
       → After g v (tokenRoom tokens) e n below m 0 1 (derived x ∷ []) ss s t (rowLeft s) t
   unfolding rowLeft put
-  begun-part {n} {below} {x} {m} {ss} (inside {at = i} {givesRow = r} a b) at level chosen =
+  begun-part {n} {below} {x} {m} {ss} (inside {at = i} {row = r} a b) at level chosen =
       going {i = i} {r = r} {j = i} {k = r + 1} [] (λ (o : Outcome) (d : Gives g v e below ss i o).
       gives-within g v e fixed (record { left = x; makes = m; right = ss }) (chosen i r refl) (omega arith) d)
       (omega arith) refl (omega arith) a (omega arith)
@@ -315,7 +315,7 @@ module _ (g : List Production) (v : View) (tokens : List ℕ) (e : Names) (fixed
   pub after-spans : {n below least more : ℕ} {m : Makes} {ts ss : List Symbol} {s s' : Step} {t t' : List ℕ} → levels m ≡ 1
       → After g v (tokenRoom tokens) e n below m least more ts ss s t s' t' → Spans s s'
   after-spans level (going {i = i} {r = r} {j = j} {k = k} rows f at is from few to) =
-      spans {at = i} {givesRow = r} {next = j} {last = k} (omega arith) (omega arith)
+      spans {at = i} {row = r} {next = j} {last = k} (omega arith) (omega arith)
   after-spans level (stopped6 d l) = to-refused
   after-spans level (stopped7 d l) = to-refused
   after-spans level (passedOn l) = from-refused
@@ -353,10 +353,10 @@ module _ (g : List Production) (v : View) (tokens : List ℕ) (e : Names) (fixed
 module _ (tokens : List ℕ) where
   -- more rows are allowed
   pub within-wider : {more more' : ℕ} {s : Step} → Within tokens more s → more ≤ more' → Within tokens more' s
-  within-wider (inside {at = i} {givesRow = r} few to) h = inside {at = i} {givesRow = r} few (omega arith)
+  within-wider (inside {at = i} {row = r} few to) h = inside {at = i} {row = r} few (omega arith)
   within-wider elsewhere h = elsewhere
 
   -- the tokens and rows of a reading of a source have numbers of 32 bits
   pub within-small : {more : ℕ} {s : Step} → tokenRoom tokens ≤ sourceLimit → more ≤ 1 → Within tokens more s → Small s
-  within-small all h (inside {at = i} {givesRow = r} few to) = small {at = i} {givesRow = r} (omega arith) (omega arith)
+  within-small all h (inside {at = i} {row = r} few to) = small {at = i} {row = r} (omega arith) (omega arith)
   within-small all h elsewhere = over

@@ -37,7 +37,7 @@ ends17 = refl
 
 -- the first token and the first row
 pub first-within : (tokens : List ℕ) → Within tokens 0 (Read 0 0)
-first-within tokens = inside {at = 0} {givesRow = 0} (omega arith) (omega arith)
+first-within tokens = inside {at = 0} {row = 0} (omega arith) (omega arith)
 
 module _ (source tokens : List ℕ) (good : Tokens tokens) (e : Names) where
   abbrev v : View

@@ -111,10 +111,10 @@ begins-none x tokens s h = let few = ltb-false 0 (kindAlternative x (nextKind to
 pub taken-fewer : {more : ℕ} {s : Step} (tokens : List ℕ) (test : ℕ → Bool) → ((j : ℕ) → test j ≡ true → j < tokenRoom tokens)
     → Within tokens (more + 2) s → Within tokens more (takenBy test s)
 unfolding takenBy
-taken-fewer {more} tokens test room (inside {at = i} {givesRow = r} few to) = within-by (test i) (room i)
+taken-fewer {more} tokens test room (inside {at = i} {row = r} few to) = within-by (test i) (room i)
   where
     within-by : (b : Bool) → (b ≡ true → i < tokenRoom tokens) → Within tokens more (pick b (Read (i + 1) r) (Refused 6 i))
-    within-by true here = let some = here refl in inside {at = i + 1} {givesRow = r} (omega arith) (omega arith)
+    within-by true here = let some = here refl in inside {at = i + 1} {row = r} (omega arith) (omega arith)
     within-by false here = elsewhere
 taken-fewer tokens test room elsewhere = elsewhere
 
@@ -142,10 +142,10 @@ within-word tokens keywords to within =
 pub opened-within : {a : ℕ} {s s' : Step} (x : ℕ) → kindAlternative x 0 ≡ 0 → (tokens : List ℕ)
     → kindAlternative x (nextKind tokens s) ≡ suc a → Within tokens 1 s → s' ≡ opened s → Within tokens 0 s'
 unfolding nextKind opened
-opened-within {a} x ends tokens beginsPart (inside {at = i} {givesRow = r} few to) is =
+opened-within {a} x ends tokens beginsPart (inside {at = i} {row = r} few to) is =
     let room = kind-inside tokens i (kindAt tokens i) refl (pos-of-ne-zero (λ (z : kindAt tokens i ≡ 0).
     let gone : kindAlternative x (kindAt tokens i) ≡ 0 = ap (kindAlternative x) z ∙ ends in absurd (omega arith))) in
-    rw is (inside {at = i + 1} {givesRow = r + 1} (omega arith) (omega arith))
+    rw is (inside {at = i + 1} {row = r + 1} (omega arith) (omega arith))
 opened-within x ends tokens beginsPart elsewhere is = rw is elsewhere
 
 -- whether a production that makes a row is chosen

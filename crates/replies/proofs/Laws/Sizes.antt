@@ -12,7 +12,7 @@ use borrow.Author.Tests.{le-leb}
 use Rattle.lexer.specs.Tests.{pick}
 use Rattle.lexer.specs.Text.{bytes}
 use Rattle.lexer.specs.Table.{tokenRoom}
-use Rattle.tree.specs.TreeTable.{Row, treeWidth, treeRoom, treeRows, placed}
+use Rattle.tree.specs.TreeTable.{Row, treeWidth, treeRoom, treeRows, placed, columnAt, treeRowAt}
 use Rattle.tree.specs.internal.RowKinds.{namedTypeRow}
 use Rattle.grammar.specs.Forests.{Forest, nothing, tree}
 use Rattle.grammar.specs.Languages.{language17}
@@ -111,13 +111,20 @@ unfolding placed
 placed-length rs table room = let l = length-treeRows rs in simp (length-append, length-drop) (omega arith)
 
 -- the lines of rows
-line-of-row : (table : List ℕ) (r : ℕ) → Small table → length (rowLine table r) ≤ 20
+digits-of-column : (table : List ℕ) (r column : ℕ) → Small table → length (decimal (columnAt table r column)) ≤ 4
+unfolding columnAt
+digits-of-column table r column all = cases (ltb r (treeRoom table))
+  where
+    cases : (t : Bool) → length (decimal (pick t (getD table (r * treeWidth + column) 0) 0)) ≤ 4
+    cases true = digits-of-four (getD table (r * treeWidth + column) 0) (all (r * treeWidth + column))
+    cases false = digits-of-four 0 (omega arith)
+
+line-of-row : (table : List ℕ) (r : ℕ) → Small table → length (rowLine (treeRowAt table r)) ≤ 20
 line-of-row table r all =
-    let at = r * treeWidth in
-    let a = digits-of-four (getD table at 0) (all at) in
-    let b = digits-of-four (getD table (at + 1) 0) (all (at + 1)) in
-    let c = digits-of-four (getD table (at + 2) 0) (all (at + 2)) in
-    let d = digits-of-four (getD table (at + 3) 0) (all (at + 3)) in
+    let a = digits-of-column table r 0 all in
+    let b = digits-of-column table r 1 all in
+    let c = digits-of-column table r 2 all in
+    let d = digits-of-column table r 3 all in
     simp length-append (omega arith)
 
 lines-of-rows : (table : List ℕ) (n : ℕ) → Small table → length (rowLines table n) ≤ 20 * n
@@ -126,7 +133,7 @@ lines-of-rows table zero all = omega arith
 lines-of-rows table (suc n) all =
     let front = lines-of-rows table n all in
     let last = line-of-row table n all in
-    let both = length-append (rowLines table n) (rowLine table n) in
+    let both = length-append (rowLines table n) (rowLine (treeRowAt table n)) in
     omega arith
 
 -- the text of an answer whose counts and rows are small, and of a refusal

@@ -43,10 +43,7 @@ returns c =
     rw all (inv .0)
 
 put-row-requires : tie.Need-put-row-requires Inv-loop μ-loop
-put-row-requires c κs =
-    let room = c .before .before .before .before .room in
-    let room = room .ensures in
-    omega arith
+put-row-requires c κs = search needs
 
 add-row : tie.Need-add-row Inv-loop μ-loop
 add-row c = search needs
