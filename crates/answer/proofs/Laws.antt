@@ -1,5 +1,4 @@
 -- Laws of the answer, and examples of it.
 pub mod Answers
 pub mod Examples
-pub mod Lists17
 pub mod WrongReaders

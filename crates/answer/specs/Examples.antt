@@ -7,6 +7,7 @@ use lib.ListN.{length, replicate}
 use Rattle.lexer.specs.Text.{bytes}
 use Rattle.lexer.specs.Kinds.{tokenKind}
 use Rattle.lexer.specs.Tokens.{Token}
+use Rattle.lexer.specs.Examples.{tokenFrom}
 use Rattle.lexer.specs.Table.{filled}
 use Rattle.tree.specs.RowKinds.{rowKind}
 use Rattle.tree.specs.TreeTable.{Row, placed, cleared}
@@ -26,9 +27,6 @@ pub record Example : Type 0 where
   pub source : List ℕ
   pub names : List ℕ
   pub expected : Expected
-
-abbrev pub tokenFrom : String → ℕ → ℕ → Token
-tokenFrom k s n = record { kind = tokenKind k; start = s; size = n }
 
 abbrev pub node : String → ℕ → ℕ → ℕ → Row
 node k f c n = record { kind = rowKind k; first = f; cover = c; count = n }

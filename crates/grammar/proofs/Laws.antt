@@ -23,5 +23,6 @@ pub mod Alternatives17
 pub mod Structs
 pub mod Sources
 pub mod Nurl17
+pub mod Lists17
 pub mod Names
 pub mod KnownKinds

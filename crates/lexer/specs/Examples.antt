@@ -7,7 +7,7 @@ use Rattle.lexer.specs.Text.{bytes}
 use Rattle.lexer.specs.Kinds.{tokenKind}
 use Rattle.lexer.specs.Tokens.{Token, Scan, cleanly, faultAfter}
 
-pub record Example : Type 0 where
+pub record TokenExample : Type 0 where
   pub source : List ℕ
   pub outcome : Scan
 
@@ -16,48 +16,48 @@ abbrev pub tokenFrom : String → ℕ → ℕ → Token
 tokenFrom k s n = record { kind = tokenKind k; start = s; size = n }
 
 -- a source that is a text
-unfoldable pub example : String → Scan → Example
+unfoldable pub tokenExample : String → Scan → TokenExample
 unfolding bytes
-example text outcome = record { source = bytes text; outcome = outcome }
+tokenExample text outcome = record { source = bytes text; outcome = outcome }
 
-unfoldable pub examples : List Example
-unfolding example
-examples =
+unfoldable pub tokenExamples : List TokenExample
+unfolding tokenExample
+tokenExamples =
     -- M1, M2 and the tokens of M5
-    example "" (cleanly []) ∷
-    example ": i floor -40" (cleanly (tokenFrom ":" 0 1 ∷ tokenFrom "keyword" 2 1 ∷ tokenFrom "IDENT" 4 5 ∷ tokenFrom "INT" 10 3 ∷ [])) ∷
-    example "??i" (cleanly (tokenFrom "??" 0 2 ∷ tokenFrom "keyword" 2 1 ∷ [])) ∷
+    tokenExample "" (cleanly []) ∷
+    tokenExample ": i floor -40" (cleanly (tokenFrom ":" 0 1 ∷ tokenFrom "keyword" 2 1 ∷ tokenFrom "IDENT" 4 5 ∷ tokenFrom "INT" 10 3 ∷ [])) ∷
+    tokenExample "??i" (cleanly (tokenFrom "??" 0 2 ∷ tokenFrom "keyword" 2 1 ∷ [])) ∷
     -- M6: a join takes an IDENT and no keyword, and no space
-    example "m::alloc" (cleanly (tokenFrom "IDENT" 0 8 ∷ [])) ∷
-    example "m::i" (cleanly (tokenFrom "IDENT" 0 1 ∷ tokenFrom ":" 1 1 ∷ tokenFrom ":" 2 1 ∷ tokenFrom "keyword" 3 1 ∷ [])) ∷
-    example "a :: xx" (cleanly (tokenFrom "IDENT" 0 1 ∷ tokenFrom ":" 2 1 ∷ tokenFrom ":" 3 1 ∷ tokenFrom "IDENT" 5 2 ∷ [])) ∷
-    example "a::xx::i" (cleanly (tokenFrom "IDENT" 0 5 ∷ tokenFrom ":" 5 1 ∷ tokenFrom ":" 6 1 ∷ tokenFrom "keyword" 7 1 ∷ [])) ∷
-    example "a:::xx" (cleanly (tokenFrom "IDENT" 0 1 ∷ tokenFrom ":" 1 1 ∷ tokenFrom ":" 2 1 ∷ tokenFrom ":" 3 1 ∷ tokenFrom "IDENT" 4 2 ∷ [])) ∷
-    example "T::xx" (cleanly (tokenFrom "boolean" 0 1 ∷ tokenFrom ":" 1 1 ∷ tokenFrom ":" 2 1 ∷ tokenFrom "IDENT" 3 2 ∷ [])) ∷
-    example "Z m::_" (cleanly (tokenFrom "Z" 0 1 ∷ tokenFrom "IDENT" 2 4 ∷ [])) ∷
+    tokenExample "m::alloc" (cleanly (tokenFrom "IDENT" 0 8 ∷ [])) ∷
+    tokenExample "m::i" (cleanly (tokenFrom "IDENT" 0 1 ∷ tokenFrom ":" 1 1 ∷ tokenFrom ":" 2 1 ∷ tokenFrom "keyword" 3 1 ∷ [])) ∷
+    tokenExample "a :: xx" (cleanly (tokenFrom "IDENT" 0 1 ∷ tokenFrom ":" 2 1 ∷ tokenFrom ":" 3 1 ∷ tokenFrom "IDENT" 5 2 ∷ [])) ∷
+    tokenExample "a::xx::i" (cleanly (tokenFrom "IDENT" 0 5 ∷ tokenFrom ":" 5 1 ∷ tokenFrom ":" 6 1 ∷ tokenFrom "keyword" 7 1 ∷ [])) ∷
+    tokenExample "a:::xx" (cleanly (tokenFrom "IDENT" 0 1 ∷ tokenFrom ":" 1 1 ∷ tokenFrom ":" 2 1 ∷ tokenFrom ":" 3 1 ∷ tokenFrom "IDENT" 4 2 ∷ [])) ∷
+    tokenExample "T::xx" (cleanly (tokenFrom "boolean" 0 1 ∷ tokenFrom ":" 1 1 ∷ tokenFrom ":" 2 1 ∷ tokenFrom "IDENT" 3 2 ∷ [])) ∷
+    tokenExample "Z m::_" (cleanly (tokenFrom "Z" 0 1 ∷ tokenFrom "IDENT" 2 4 ∷ [])) ∷
     -- M7 and M8; an arrow that is cut short
-    example "`" (faultAfter [] 4 0) ∷
-    example "," (faultAfter [] 3 0) ∷
+    tokenExample "`" (faultAfter [] 4 0) ∷
+    tokenExample "," (faultAfter [] 3 0) ∷
     record { source = 0x20 ∷ 0xE2 ∷ 0x86 ∷ []; outcome = faultAfter [] 3 1 } ∷
     -- the minus of a number
-    example "5-3" (cleanly (tokenFrom "INT" 0 1 ∷ tokenFrom "INT" 1 2 ∷ [])) ∷
-    example "--3" (cleanly (tokenFrom "-" 0 1 ∷ tokenFrom "INT" 1 2 ∷ [])) ∷
-    example "- 4" (cleanly (tokenFrom "-" 0 1 ∷ tokenFrom "INT" 2 1 ∷ [])) ∷
-    example "-.5" (cleanly (tokenFrom "-" 0 1 ∷ tokenFrom "." 1 1 ∷ tokenFrom "INT" 2 1 ∷ [])) ∷
+    tokenExample "5-3" (cleanly (tokenFrom "INT" 0 1 ∷ tokenFrom "INT" 1 2 ∷ [])) ∷
+    tokenExample "--3" (cleanly (tokenFrom "-" 0 1 ∷ tokenFrom "INT" 1 2 ∷ [])) ∷
+    tokenExample "- 4" (cleanly (tokenFrom "-" 0 1 ∷ tokenFrom "INT" 2 1 ∷ [])) ∷
+    tokenExample "-.5" (cleanly (tokenFrom "-" 0 1 ∷ tokenFrom "." 1 1 ∷ tokenFrom "INT" 2 1 ∷ [])) ∷
     -- numbers that stop before what is not all there
-    example "1.0e" (cleanly (tokenFrom "FLOAT" 0 3 ∷ tokenFrom "IDENT" 3 1 ∷ [])) ∷
-    example "1.0e+x" (cleanly (tokenFrom "FLOAT" 0 3 ∷ tokenFrom "IDENT" 3 1 ∷ tokenFrom "+" 4 1 ∷ tokenFrom "IDENT" 5 1 ∷ [])) ∷
-    example "-1.50E-03" (cleanly (tokenFrom "FLOAT" 0 9 ∷ [])) ∷
-    example "3." (cleanly (tokenFrom "INT" 0 1 ∷ tokenFrom "." 1 1 ∷ [])) ∷
-    example "1e5" (cleanly (tokenFrom "INT" 0 1 ∷ tokenFrom "IDENT" 1 2 ∷ [])) ∷
+    tokenExample "1.0e" (cleanly (tokenFrom "FLOAT" 0 3 ∷ tokenFrom "IDENT" 3 1 ∷ [])) ∷
+    tokenExample "1.0e+x" (cleanly (tokenFrom "FLOAT" 0 3 ∷ tokenFrom "IDENT" 3 1 ∷ tokenFrom "+" 4 1 ∷ tokenFrom "IDENT" 5 1 ∷ [])) ∷
+    tokenExample "-1.50E-03" (cleanly (tokenFrom "FLOAT" 0 9 ∷ [])) ∷
+    tokenExample "3." (cleanly (tokenFrom "INT" 0 1 ∷ tokenFrom "." 1 1 ∷ [])) ∷
+    tokenExample "1e5" (cleanly (tokenFrom "INT" 0 1 ∷ tokenFrom "IDENT" 1 2 ∷ [])) ∷
     -- the longest mark
-    example "===" (cleanly (tokenFrom "==" 0 2 ∷ tokenFrom "=" 2 1 ∷ [])) ∷
-    example "???" (cleanly (tokenFrom "??" 0 2 ∷ tokenFrom "?" 2 1 ∷ [])) ∷
-    example "<<<" (cleanly (tokenFrom "<<" 0 2 ∷ tokenFrom "<" 2 1 ∷ [])) ∷
-    example "→→" (cleanly (tokenFrom "→" 0 3 ∷ tokenFrom "→" 3 3 ∷ [])) ∷
+    tokenExample "===" (cleanly (tokenFrom "==" 0 2 ∷ tokenFrom "=" 2 1 ∷ [])) ∷
+    tokenExample "???" (cleanly (tokenFrom "??" 0 2 ∷ tokenFrom "?" 2 1 ∷ [])) ∷
+    tokenExample "<<<" (cleanly (tokenFrom "<<" 0 2 ∷ tokenFrom "<" 2 1 ∷ [])) ∷
+    tokenExample "→→" (cleanly (tokenFrom "→" 0 3 ∷ tokenFrom "→" 3 3 ∷ [])) ∷
     -- strings and comments, and which fault is met first
-    example "`a,→`x//`," (cleanly (tokenFrom "STR" 0 7 ∷ tokenFrom "IDENT" 7 1 ∷ [])) ∷
-    example "/ / //" (cleanly (tokenFrom "/" 0 1 ∷ tokenFrom "/" 2 1 ∷ [])) ∷
-    example "a ,`" (faultAfter (tokenFrom "IDENT" 0 1 ∷ []) 3 2) ∷
-    example "a `," (faultAfter (tokenFrom "IDENT" 0 1 ∷ []) 4 2) ∷
+    tokenExample "`a,→`x//`," (cleanly (tokenFrom "STR" 0 7 ∷ tokenFrom "IDENT" 7 1 ∷ [])) ∷
+    tokenExample "/ / //" (cleanly (tokenFrom "/" 0 1 ∷ tokenFrom "/" 2 1 ∷ [])) ∷
+    tokenExample "a ,`" (faultAfter (tokenFrom "IDENT" 0 1 ∷ []) 3 2) ∷
+    tokenExample "a `," (faultAfter (tokenFrom "IDENT" 0 1 ∷ []) 4 2) ∷
     []

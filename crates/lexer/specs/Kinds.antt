@@ -1,4 +1,5 @@
--- "Token kinds: IDENT 1, keyword 2, boolean 3, Z 4, INT 5, FLOAT 6, STR 7, then in this order from 8 to 42" the marks: a position is a number.
+-- "Token kinds: IDENT 1, keyword 2, boolean 3, Z 4, INT 5, FLOAT 6, STR 7, then in this order from 8 to 42" the marks. A kind's number
+-- is its position.
 use Prim.Native.Nat.{ℕ}
 use Prim.Native.String.{String}
 use mathlib.Core.List.{List, [], _∷_}

@@ -11,7 +11,7 @@ pub mod Words
 pub mod Numbers
 pub mod Lexemes
 pub mod Tokens
+pub mod Items
 pub mod Table
 pub mod Examples
 pub mod internal
-pub mod Items

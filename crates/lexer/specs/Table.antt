@@ -1,4 +1,4 @@
--- The token table: its rows, what the tokeniser answers and what it leaves in the table.
+-- The token table: its rows, and what it holds when tokens are put into it.
 use Prim.Native.Nat.{ℕ, _*_, _/_}
 use mathlib.Core.List.{List, [], _∷_, _++_}
 use lib.ListN.{length, take, drop}

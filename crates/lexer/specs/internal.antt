@@ -1,4 +1,4 @@
--- What the functions of this crate promise each other and the crates above. The promise of `nurl` does not depend on it.
+-- What the functions of this crate promise each other and the crates above, and the kinds as constants. The promise of `nurl` does not depend on it.
 pub mod Class
 pub mod Kinds
 pub mod Leaves

@@ -1,3 +1,3 @@
--- What the library promises beside the answer's definition in `grammar`: the text of an answer.
+-- What the library promises beside the answer's definition in `answer`: the text of an answer.
 pub mod Texts
 pub mod internal

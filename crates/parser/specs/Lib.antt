@@ -1,2 +1,2 @@
--- What the readers answer and what they leave in the tree table.
+-- The parser promises only what `nurl` needs of it.
 pub mod internal

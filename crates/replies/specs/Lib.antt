@@ -1,3 +1,3 @@
--- What the desk program prints for a script, and what a call that reads a descriptor came to.
+-- What the desk program prints for a script.
 pub mod Desk
 pub mod internal

@@ -16,7 +16,8 @@ use Rattle.tree.specs.TreeTable.{treeWidth, placed, cleared}
 use Rattle.grammar.specs.Languages.{language17}
 use Rattle.answer.specs.Answers.{levelLimit, Result, answer17}
 use Rattle.answer.specs.Demands.{Acceptance, Reader, MeetsDemands}
-use Rattle.answer.specs.Examples.{tokenFrom, node, lentTokens, lentRows}
+use Rattle.lexer.specs.Examples.{tokenFrom}
+use Rattle.answer.specs.Examples.{node, lentTokens, lentRows}
 use Rattle.answer.specs.declared.Answer.{Answer}
 use Rattle.answer.specs.declared.Answer.the-variants.{Accepted, Refused}
 use Rattle.answer.proofs.Laws.Examples.{answersTo}

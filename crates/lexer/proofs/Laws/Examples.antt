@@ -10,16 +10,16 @@ use Rattle.lexer.specs.Numbers.{withDigits, fraction, sign, exponent}
 use Rattle.lexer.specs.Lexemes.{skippedSpaces, spaces, comment, wordOf, word, numberOf, unsignedNumber, withMinus, number, text}
 use Rattle.lexer.specs.Lexemes.{markOf, markUpTo, mark, orElse, lexeme}
 use Rattle.lexer.specs.Tokens.{lexemeSize, follow, lexemesWithin, lexemes, Scan, withToken, located, scan}
-use Rattle.lexer.specs.Examples.{Example, examples}
+use Rattle.lexer.specs.Examples.{TokenExample, tokenExamples}
 
 -- `scan`, opened down to its parts: whoever computes with the lexical rules unfolds this one name
-unfoldable pub scans : Edition → Example → Scan
+unfoldable pub scans : Edition → TokenExample → Scan
 unfolding and or between isSpace isDigit isLetter isWordByte isInLine isInString beginsEither run same kindOf longest
     reserved spelledMarks wordLength orIdent wordKind identLength twoColons joins withDigits fraction
     sign exponent skippedSpaces spaces comment wordOf word numberOf unsignedNumber withMinus number text markOf
     markUpTo mark orElse lexeme lexemeSize follow lexemesWithin lexemes withToken located scan
 scans e x = scan e (x .source)
 
-pub examples-hold : map (scans edition17) examples ≡ map (λ x. x .outcome) examples
-unfolding scans examples
+pub examples-hold : map (scans edition17) tokenExamples ≡ map (λ x. x .outcome) tokenExamples
+unfolding scans tokenExamples
 examples-hold = refl

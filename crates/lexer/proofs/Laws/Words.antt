@@ -41,19 +41,6 @@ pub word-le : (s : List ℕ) → wordLength s ≤ length s
 word-le [] = rw word-nil zero-le
 word-le (b ∷ s) = word-le-by b s (isLetter b) refl
 
--- a word begins with a letter
-word-letter-by : (b : ℕ) (s : List ℕ) (t : Bool) → isLetter b ≡ t → 0 < wordLength (b ∷ s) → isLetter b ≡ true
-word-letter-by b s true h l = h
-word-letter-by b s false h l = let z = word-none b s h in absurd (omega arith)
-
-pub begins-with-letter : (b : ℕ) (s : List ℕ) → 0 < wordLength (b ∷ s) → isLetter b ≡ true
-begins-with-letter b s l = word-letter-by b s (isLetter b) refl l
-
--- a word of two letters or more is an IDENT
-pub kind-long : (a b : ℕ) (w : List ℕ) → wordKind (a ∷ b ∷ w) ≡ ident
-unfolding wordKind kindOf reserved same and orIdent
-kind-long a b w = refl
-
 -- the first n bytes as a word, where n is not 1
 pub kind-other : (n : ℕ) (s : List ℕ) → n ≤ length s → (n ≡ 1 → ⊥) → wordKind (take n s) ≡ ident
 unfolding wordKind kindOf reserved same and orIdent

@@ -1,4 +1,4 @@
--- The numbers of the answer for a list.
+-- Document 01's number and place of the answer for a list.
 use Prim.Native.Nat.{ℕ}
 use mathlib.Core.List.{List, [], _∷_}
 use Rattle.lexer.specs.Editions.{Edition}
