@@ -4,15 +4,17 @@ use lexer::Scanned;
 use lexer::refusals;
 use parser::Step;
 use typenames::Checked;
+use typenames::PREPARED_LIMIT;
 use typenames::Scope;
 ghost use mathlib.Core.Path.{_≡_};
-ghost use Prim.Native.Nat.{_≤_};
+ghost use Prim.Native.Nat.{_+_, _≤_};
 ghost use lib.ListN.{length, replicate};
 ghost use Rattle.lexer.specs.Editions.{edition17};
 ghost use Rattle.lexer.specs.Tokens.{cleanly, scan};
 ghost use Rattle.lexer.specs.Table.{sourceLimit};
 ghost use Rattle.lexer.specs.internal.TokenRows.{rowsOf};
 ghost use Rattle.typenames.specs.NameList.{nameLimit};
+ghost use Rattle.typenames.specs.internal.Prepared.{slots};
 ghost use Rattle.grammar.specs.Languages.{language17};
 ghost use Rattle.answer.specs.Answers.{levelLimit, values, Result, answer17, answerValues};
 ghost use Rattle.answer.specs.Demands.{Demands};
@@ -22,11 +24,11 @@ ghost use Rattle.nurl.specs.internal.Results.{treeResult};
 const LEVEL_LIMIT: usize = 200;
 
 // Room for the longest list of names, prepared. No slot is set yet: a slot that is set for no name would cost time at every question.
-fn names_buffer() -> [u8; 20480]
-    ensures size { λ r. ⌜ 20480 ≡ length r ⌝ }
-    ensures unset { λ r. ⌜ r ≡ replicate 20480 0 ⌝ }
+fn names_buffer() -> [u8; PREPARED_LIMIT]
+    ensures size { λ r. ⌜ slots + nameLimit ≡ length r ⌝ }
+    ensures unset { λ r. ⌜ r ≡ replicate (slots + nameLimit) 0 ⌝ }
 {
-    [0; 20480]
+    [0; PREPARED_LIMIT]
 }
 
 // Refusals 6 to 8 or acceptance, for the tokens of a source in a table that holds nothing else.

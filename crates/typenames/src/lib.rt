@@ -6,11 +6,11 @@ mod list;
 mod names;
 mod prepared;
 
-pub use compare::same_name;
 pub use filter::SLOTS;
 pub use list::NAME_LIMIT;
 pub use list::check_names;
 pub use names::is_type_name;
+pub use prepared::PREPARED_LIMIT;
 pub use prepared::prepare;
 
 // Whether a list of names is good, or the refusal's number and place.
