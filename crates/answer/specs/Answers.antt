@@ -4,7 +4,7 @@ use Prim.Native.Nat.{ℕ}
 use mathlib.Core.List.{List, [], _∷_}
 use lib.Dec.{leb, ltb}
 use lib.ListN.{length}
-use Rattle.lexer.specs.Refusals.{refusal}
+use Rattle.lexer.specs.Refusals.{refusalNumber}
 use Rattle.lexer.specs.Tests.{pick}
 use Rattle.lexer.specs.Tokens.{Token, Ending, clean, fault, scan}
 use Rattle.lexer.specs.Table.{sourceLimit, tokenRoom, filled}
@@ -38,17 +38,17 @@ pub data Verdict : Type 0 where
 
 -- No. 6 to 8, of 6 and 7 the one that the reading meets first; its fuel is never spent
 unfoldable pub judged : ℕ → List Token → Outcome → Verdict
-judged treeSpace ts (ok j rows said) = pick (leb (length rows) treeSpace) (accept ts rows) (late (refusal "few tree rows") (length rows) ts)
-judged treeSpace ts (stuck i) = late (refusal "no program") i ts
-judged treeSpace ts (deep i) = late (refusal "too deep") i ts
-judged treeSpace ts spent = late (refusal "no program") 0 ts
+judged treeSpace ts (ok j rows said) = pick (leb (length rows) treeSpace) (accept ts rows) (late (refusalNumber "few tree rows") (length rows) ts)
+judged treeSpace ts (stuck i) = late (refusalNumber "no program") i ts
+judged treeSpace ts (deep i) = late (refusalNumber "too deep") i ts
+judged treeSpace ts spent = late (refusalNumber "no program") 0 ts
 
 -- No. 3 to 5, of 3 and 4 the one met first
 unfoldable pub scannedTokens : Language → ℕ → List ℕ → List ℕ → ℕ → ℕ → List Token → Ending → Verdict
 scannedTokens l limit source names tokenSpace treeSpace ts (fault number place) = early number place
 scannedTokens l limit source names tokenSpace treeSpace ts clean =
     let judgement = judged treeSpace ts (readTokens l limit source names ts) in
-    pick (leb (length ts) tokenSpace) judgement (early (refusal "few token rows") (length ts))
+    pick (leb (length ts) tokenSpace) judgement (early (refusalNumber "few token rows") (length ts))
 
 -- No. 2
 unfoldable pub checkedNames : Checked → Verdict → Verdict
@@ -61,7 +61,7 @@ verdict l limit source names tokenSpace treeSpace =
     let scanned = scan (l .lexical) source in
     let decided = scannedTokens l limit source names tokenSpace treeSpace (scanned .found) (scanned .ending) in
     let named = checkedNames (checked (l .lexical) names) decided in
-    pick (ltb sourceLimit (length source)) (early (refusal "long source") 0) named
+    pick (ltb sourceLimit (length source)) (early (refusalNumber "long source") 0) named
 
 -- the answer, and what the token table and the tree table hold afterwards
 pub record Result : Type 0 where

@@ -4,7 +4,7 @@ use Prim.Native.Nat.{ℕ, _<_, _≤_}
 use mathlib.Core.Path.{_≡_}
 use mathlib.Core.List.{List, flatten}
 use lib.ListN.{length}
-use Rattle.lexer.specs.Refusals.{refusal}
+use Rattle.lexer.specs.Refusals.{refusalNumber}
 use Rattle.lexer.specs.Tokens.{Token, fault, cleanly, pieces, lexemes, scan}
 use Rattle.lexer.specs.Table.{sourceLimit, tokenRoom, filled}
 use Rattle.typenames.specs.NameList.{checked}
@@ -44,25 +44,25 @@ module _ (l : Language) (source names : List ℕ) where
     -- Each line also asks that no line above it applies; of 3 and 4, and of 6 and 7, `scan` and the reading meet one first.
     pub data Refusal : ℕ → ℕ → List ℕ → List ℕ → Type 0 where
       -- "source over 1,048,576 bytes"
-      too-long : sourceLimit < length source → Refusal (refusal "long source") 0 tokens rows
+      too-long : sourceLimit < length source → Refusal (refusalNumber "long source") 0 tokens rows
       -- "list over 16,384 bytes (place 0), or an entry's bytes are not exactly one IDENT token"
-      bad-names : {place : ℕ} → length source ≤ sourceLimit → checked (l .lexical) names ≡ Checked.Refused (refusal "bad names") place
-          → Refusal (refusal "bad names") place tokens rows
+      bad-names : {place : ℕ} → length source ≤ sourceLimit → checked (l .lexical) names ≡ Checked.Refused (refusalNumber "bad names") place
+          → Refusal (refusalNumber "bad names") place tokens rows
       -- "a byte begins no token, space or comment"
-      bad-byte : {place : ℕ} → Admitted → scan (l .lexical) source .ending ≡ fault (refusal "bad byte") place → Refusal (refusal "bad byte") place tokens rows
+      bad-byte : {place : ℕ} → Admitted → scan (l .lexical) source .ending ≡ fault (refusalNumber "bad byte") place → Refusal (refusalNumber "bad byte") place tokens rows
       -- "a string is not closed"
-      open-string : {place : ℕ} → Admitted → scan (l .lexical) source .ending ≡ fault (refusal "open string") place → Refusal (refusal "open string") place tokens rows
+      open-string : {place : ℕ} → Admitted → scan (l .lexical) source .ending ≡ fault (refusalNumber "open string") place → Refusal (refusalNumber "open string") place tokens rows
       -- "more tokens than rows"
-      few-token-rows : {ts : List Token} → Readable ts → tokenRoom tokens < length ts → Refusal (refusal "few token rows") (length ts) tokens rows
+      few-token-rows : {ts : List Token} → Readable ts → tokenRoom tokens < length ts → Refusal (refusalNumber "few token rows") (length ts) tokens rows
       -- "no program": the place is "the token that the leftmost reading .. cannot take"
       no-program : {ts : List Token} {place : ℕ} → Readable ts → length ts ≤ tokenRoom tokens
-          → readTokens l limit source names ts ≡ stuck place → Refusal (refusal "no program") place (filled source ts tokens) (cleared rows)
+          → readTokens l limit source names ts ≡ stuck place → Refusal (refusalNumber "no program") place (filled source ts tokens) (cleared rows)
       -- "too deep": the place is "a token that can begin the row called for"
       too-deep : {ts : List Token} {place : ℕ} → Readable ts → length ts ≤ tokenRoom tokens
-          → readTokens l limit source names ts ≡ deep place → Refusal (refusal "too deep") place (filled source ts tokens) (cleared rows)
+          → readTokens l limit source names ts ≡ deep place → Refusal (refusalNumber "too deep") place (filled source ts tokens) (cleared rows)
       -- "more tree rows than room"
       few-tree-rows : {ts : List Token} {rs : List Row} → Readable ts → length ts ≤ tokenRoom tokens
-          → DerivationOf l source names ts limit rs → treeRoom rows < length rs → Refusal (refusal "few tree rows") (length rs) (filled source ts tokens) (cleared rows)
+          → DerivationOf l source names ts limit rs → treeRoom rows < length rs → Refusal (refusalNumber "few tree rows") (length rs) (filled source ts tokens) (cleared rows)
 
     -- what acceptance with two row counts says, of the tables afterwards
     pub record Acceptance (tokenCount rowCount : ℕ) (tokensAfter rowsAfter : List ℕ) : Type 0 where
@@ -104,10 +104,10 @@ module _ (l : Language) (source names : List ℕ) where
           → (n : ℕ) (rs : List Row) → DerivationOf l source names ts n rs
           → r ≡ record { answer = Accepted (length ts) (length rs); tokens = filled source ts tokens; rows = placed rs rows }
       -- "“No program” is said only if there is no derivation at any depth"
-      pub no-derivation : (place : ℕ) → r .answer ≡ Refused (refusal "no program") place → (ts : List Token) → Readable ts
+      pub no-derivation : (place : ℕ) → r .answer ≡ Refused (refusalNumber "no program") place → (ts : List Token) → Readable ts
           → (n : ℕ) (rs : List Row) → DerivationOf l source names ts n rs → ⊥
       -- "“too deep” only if there is none within 200"
-      pub none-within : (place : ℕ) → r .answer ≡ Refused (refusal "too deep") place → (ts : List Token) → Readable ts
+      pub none-within : (place : ℕ) → r .answer ≡ Refused (refusalNumber "too deep") place → (ts : List Token) → Readable ts
           → (rs : List Row) → DerivationOf l source names ts limit rs → ⊥
 
     -- The demands on the result r of a reader for this source, list and tables. Of the readers that document 01 names,

@@ -24,5 +24,5 @@ pub mod Structs
 pub mod Sources
 pub mod Nurl17
 pub mod Lists17
-pub mod Names
+pub mod Positions
 pub mod KnownKinds

@@ -4,8 +4,8 @@ use mathlib.Core.Path.{_≡_}
 use mathlib.Core.Bool.{Bool, true}
 use mathlib.Core.List.{List, [], _∷_, _++_}
 use Rattle.lexer.specs.Tests.{among}
-use Rattle.grammar.specs.Grammars.{Condition, Symbol, token, derived, condition, Production, Names, View, met}
 use Rattle.tree.specs.TreeTable.{Row}
+use Rattle.grammar.specs.Grammars.{Condition, Symbol, token, derived, condition, Production, Names, View, met}
 use Rattle.grammar.specs.Rows.{made, passed, firstSaid, levels}
 
 -- a production of a table

@@ -7,13 +7,13 @@ use Prim.Native.Nat.{ℕ}
 use Prim.Native.String.{String}
 use mathlib.Core.List.{List, [], _∷_, _++_, map}
 use Rattle.lexer.specs.Text.{bytes}
-use Rattle.lexer.specs.Names.{positionFrom}
+use Rattle.lexer.specs.Positions.{positionFrom}
 use Rattle.lexer.specs.Kinds.{tokenKind}
-use Rattle.grammar.specs.Grammars.{Condition, next, query, Symbol, token, derived, when, unless, Makes, givesRow, rowOf}
-use Rattle.grammar.specs.Grammars.{givesKind, noRow, Production}
-use Rattle.tree.specs.RowKinds.{rowKind}
-use Rattle.grammar.specs.Nonterminals.{nonterminal}
 use Rattle.typenames.specs.TypeNames.{opening17}
+use Rattle.tree.specs.RowKinds.{rowKind}
+use Rattle.grammar.specs.Grammars.{Condition, next, query, Symbol, token, derived, when, unless, Makes, givesRow, rowOf, givesKind}
+use Rattle.grammar.specs.Grammars.{noRow, Production}
+use Rattle.grammar.specs.Nonterminals.{nonterminal}
 use Rattle.grammar.specs.Classes.{classesOf}
 use Rattle.grammar.specs.Questions.{Piece, oneOf, someOf, spelled, Question}
 

@@ -7,8 +7,8 @@ use mathlib.Core.List.{List, [], _∷_, _++_}
 use lib.Dec.{eqb}
 use lib.ListN.{length}
 use Rattle.lexer.specs.Tests.{and, pick, among}
-use Rattle.grammar.specs.Grammars.{endOfTokens, next, Symbol, token, derived, condition, when, Makes, Production, Names, View, met}
 use Rattle.tree.specs.TreeTable.{Row}
+use Rattle.grammar.specs.Grammars.{endOfTokens, next, Symbol, token, derived, condition, when, Makes, Production, Names, View, met}
 use Rattle.grammar.specs.Rows.{made, passed, firstSaid, levels}
 use Rattle.grammar.specs.First.{canBegin, canSkip}
 

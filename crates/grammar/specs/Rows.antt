@@ -2,8 +2,8 @@
 use Prim.Native.Nat.{ℕ, zero, suc, _-_}
 use mathlib.Core.List.{List, _∷_}
 use lib.ListN.{length}
-use Rattle.grammar.specs.Grammars.{Makes, givesRow, rowOf, givesKind, noRow}
 use Rattle.tree.specs.TreeTable.{Row}
+use Rattle.grammar.specs.Grammars.{Makes, givesRow, rowOf, givesKind, noRow}
 
 -- a row of a kind from token i to token j above its children's rows
 abbrev pub above : ℕ → ℕ → ℕ → List Row → List Row

@@ -4,11 +4,11 @@ use Prim.Native.Nat.{ℕ}
 use mathlib.Core.List.{List}
 use lib.ListN.{length}
 use Rattle.lexer.specs.Tokens.{Token}
-use Rattle.typenames.specs.NameList.{entries}
 use Rattle.lexer.specs.Items.{items}
+use Rattle.typenames.specs.NameList.{entries}
 use Rattle.typenames.specs.TypeNames.{typeNames}
-use Rattle.grammar.specs.Grammars.{Names, View}
 use Rattle.tree.specs.TreeTable.{Row}
+use Rattle.grammar.specs.Grammars.{Names, View}
 use Rattle.grammar.specs.Derivations.{Derivation}
 use Rattle.grammar.specs.Reading.{Outcome, reading}
 use Rattle.grammar.specs.Languages.{Language, view}

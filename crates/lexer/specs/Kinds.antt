@@ -3,7 +3,7 @@
 use Prim.Native.Nat.{ℕ}
 use Prim.Native.String.{String}
 use mathlib.Core.List.{List, [], _∷_}
-use Rattle.lexer.specs.Names.{positionFrom}
+use Rattle.lexer.specs.Positions.{positionFrom}
 
 abbrev pub markNames : List String
 markNames =

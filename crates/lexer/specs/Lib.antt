@@ -1,7 +1,7 @@
 -- The lexical rules of NURL, in the order of document 01's section "From bytes to tokens", and the token table.
 pub mod Tests
 pub mod Text
-pub mod Names
+pub mod Positions
 pub mod Kinds
 pub mod Refusals
 pub mod Bytes

@@ -2,7 +2,7 @@
 use Prim.Native.Nat.{ℕ, zero, suc, _+_}
 use mathlib.Core.List.{List, [], _∷_}
 use lib.ListN.{length, take, drop}
-use Rattle.lexer.specs.Refusals.{refusal}
+use Rattle.lexer.specs.Refusals.{refusalNumber}
 use Rattle.lexer.specs.Editions.{Edition}
 use Rattle.lexer.specs.Lexemes.{lexeme}
 use Rattle.lexer.specs.declared.Lexeme.{Lexeme}
@@ -73,8 +73,8 @@ located at [] = cleanly []
 located at (End ∷ ls) = cleanly []
 located at (Skipped n ∷ ls) = located (at + n) ls
 located at (Lexeme.Token k n ∷ ls) = withToken (record { kind = k; start = at; size = n }) (located (at + n) ls)
-located at (BadByte ∷ ls) = faultAfter [] (refusal "bad byte") at
-located at (OpenString ∷ ls) = faultAfter [] (refusal "open string") at
+located at (BadByte ∷ ls) = faultAfter [] (refusalNumber "bad byte") at
+located at (OpenString ∷ ls) = faultAfter [] (refusalNumber "open string") at
 
 -- the tokens of a source, up to its first fault, and how it ends
 unfoldable pub scan : Edition → List ℕ → Scan

@@ -4,7 +4,7 @@ use Prim.Native.Nat.{ℕ, _*_}
 use mathlib.Core.List.{List, []}
 use lib.Dec.{ltb}
 use lib.ListN.{length, replicate}
-use Rattle.lexer.specs.Refusals.{refusal}
+use Rattle.lexer.specs.Refusals.{refusalNumber}
 use Rattle.lexer.specs.Tests.{pick}
 use Rattle.lexer.specs.Table.{tokenWidth}
 use Rattle.tree.specs.TreeTable.{treeWidth}
@@ -31,7 +31,7 @@ deskTree = replicate (deskTreeRows * treeWidth) 0
 -- the answer for a script, and what two tables hold after it
 unfoldable pub deskResult : List ℕ → List ℕ → List ℕ → Result
 deskResult script tokens rows =
-    pick (ltb scriptLimit (length script)) (record { answer = Refused (refusal "long source") 0; tokens = tokens; rows = rows }) (answer17 script [] tokens rows)
+    pick (ltb scriptLimit (length script)) (record { answer = Refused (refusalNumber "long source") 0; tokens = tokens; rows = rows }) (answer17 script [] tokens rows)
 
 -- the text that is printed for a script
 unfoldable pub deskText : List ℕ → List ℕ

@@ -4,7 +4,7 @@ use mathlib.Core.Bool.{Bool, false}
 use mathlib.Core.List.{List, [], _∷_}
 use lib.Dec.{eqb, ltb}
 use lib.ListN.{length}
-use Rattle.lexer.specs.Refusals.{refusal}
+use Rattle.lexer.specs.Refusals.{refusalNumber}
 use Rattle.lexer.specs.Tests.{and, pick}
 use Rattle.lexer.specs.Kinds.{tokenKind}
 use Rattle.lexer.specs.Editions.{Edition}
@@ -48,8 +48,8 @@ isName e w = isIdent (length w) (lexeme e w)
 -- refusal 2 at the first byte of the earliest entry that is not a name, the first entry being at an offset
 unfoldable pub firstBad : Edition → ℕ → List (List ℕ) → Checked
 firstBad e at [] = Good
-firstBad e at (w ∷ ws) = let later = firstBad e (at + length w + 1) ws in pick (isName e w) later (Refused (refusal "bad names") at)
+firstBad e at (w ∷ ws) = let later = firstBad e (at + length w + 1) ws in pick (isName e w) later (Refused (refusalNumber "bad names") at)
 
 -- the answer for a list
 unfoldable pub checked : Edition → List ℕ → Checked
-checked e list = pick (ltb nameLimit (length list)) (Refused (refusal "bad names") 0) (firstBad e 0 (entries list))
+checked e list = pick (ltb nameLimit (length list)) (Refused (refusalNumber "bad names") 0) (firstBad e 0 (entries list))

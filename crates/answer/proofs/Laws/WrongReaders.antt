@@ -9,6 +9,7 @@ use Rattle.lexer.specs.internal.Kinds.{colon}
 use Rattle.lexer.specs.Editions.{edition17}
 use Rattle.lexer.specs.Tokens.{Token, cleanly, scan}
 use Rattle.lexer.specs.Table.{tokenRow, tokenRows, filled}
+use Rattle.lexer.specs.Examples.{tokenFrom}
 use Rattle.lexer.proofs.Laws.Examples.{scans}
 use Rattle.lexer.proofs.Laws.Scans.{found-once}
 use Rattle.tree.specs.internal.RowKinds.{functionRow}
@@ -16,7 +17,6 @@ use Rattle.tree.specs.TreeTable.{treeWidth, placed, cleared}
 use Rattle.grammar.specs.Languages.{language17}
 use Rattle.answer.specs.Answers.{levelLimit, Result, answer17}
 use Rattle.answer.specs.Demands.{Acceptance, Reader, MeetsDemands}
-use Rattle.lexer.specs.Examples.{tokenFrom}
 use Rattle.answer.specs.Examples.{node, lentTokens, lentRows}
 use Rattle.answer.specs.declared.Answer.{Answer}
 use Rattle.answer.specs.declared.Answer.the-variants.{Accepted, Refused}

@@ -10,8 +10,8 @@ use lib.Dec.{eqb}
 use borrow.Author.Tests.{eqb-true, ne-eqb, lt-leb}
 use Rattle.lexer.specs.Tests.{and, pick, among}
 use Rattle.lexer.specs.internal.Kinds.{ident, lastKind}
-use Rattle.lexer.proofs.Laws.Tests.{and-left, and-right}
 use Rattle.lexer.specs.Items.{Item}
+use Rattle.lexer.proofs.Laws.Tests.{and-left, and-right}
 use Rattle.typenames.specs.TypeNames.{isNamed}
 use Rattle.grammar.specs.Grammars.{next, query, Symbol, token, derived, condition, Production, Names, View, agrees, asked, met}
 use Rattle.grammar.specs.First.{canBegin, canSkip}

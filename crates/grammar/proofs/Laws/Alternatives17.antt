@@ -11,13 +11,13 @@ use Rattle.lexer.specs.internal.Kinds.{ident, keyword, boolean, sizeof, int, st
 use Rattle.lexer.specs.internal.Kinds.{semicolon, tilde, leftBrace, rightBrace, leftParen, rightParen, leftBracket, rightBracket, bang}
 use Rattle.lexer.specs.internal.Kinds.{caret, backslash, question, dot, hash, star, questionQuestion, arrow}
 use Rattle.lexer.proofs.Laws.Tests.{and-left, and-right}
-use Rattle.grammar.specs.Grammars.{query, token, derived, when, unless, givesRow, rowOf, givesKind, noRow, Names, View}
 use Rattle.tree.specs.internal.RowKinds.{programRow, importRow, foreignRow, traitRow, implRow, functionRow, structRow, enumRow}
 use Rattle.tree.specs.internal.RowKinds.{constantRow, headerRow, parameterRow, variantRow, listRow, blockRow, letRow, setNameRow}
 use Rattle.tree.specs.internal.RowKinds.{setElementRow, deferRow, whileRow, foreachRow, literalRow, nameRow, binaryRow, notRow}
 use Rattle.tree.specs.internal.RowKinds.{returnRow, complementRow, tryRow, closureRow, sizeofRow, aggregateRow, sliceRow}
 use Rattle.tree.specs.internal.RowKinds.{conditionalRow, callRow, memberRow, castRow, matchRow, armRow, payloadRow, baseTypeRow}
 use Rattle.tree.specs.internal.RowKinds.{pointerRow, optionalRow, sliceTypeRow, resultRow, functionTypeRow, instanceRow, namedTypeRow}
+use Rattle.grammar.specs.Grammars.{query, token, derived, when, unless, givesRow, rowOf, givesKind, noRow, Names, View}
 use Rattle.grammar.specs.internal.Nonterminals.{program, declarations, declaration, alias, interface, interfaceRest, methods}
 use Rattle.grammar.specs.internal.Nonterminals.{method, body, functions, function, definition, mutable, fields, field, fieldName}
 use Rattle.grammar.specs.internal.Nonterminals.{parameters, parameter, variants, variant, payloadTypes, typeParameters, nameList}

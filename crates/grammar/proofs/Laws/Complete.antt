@@ -6,8 +6,8 @@ use mathlib.Core.Bool.{Bool, true}
 use mathlib.Core.List.{List}
 use native.Mathlib.Nat.{zero-add}
 use native.Mathlib.Omega.{arith}
-use Rattle.grammar.specs.Grammars.{Symbol, token, derived, condition, Production, Names, View}
 use Rattle.tree.specs.TreeTable.{Row}
+use Rattle.grammar.specs.Grammars.{Symbol, token, derived, condition, Production, Names, View}
 use Rattle.grammar.specs.Rows.{levels}
 use Rattle.grammar.specs.Derivations.{Has, Derives, end, taken, held, entered}
 use Rattle.grammar.specs.First.{canBegin, canSkip}

@@ -8,8 +8,8 @@ use mathlib.Core.Logic.{_⊎_, inl, inr}
 use native.Mathlib.Omega.{arith}
 use Rattle.lexer.specs.Tests.{and, or}
 use Rattle.lexer.proofs.Laws.Tests.{and-left, and-right, or-else, or-left}
-use Rattle.grammar.specs.Grammars.{Condition, next, query, Symbol, token, derived, condition, Production, Names, View, asked, met}
 use Rattle.tree.specs.TreeTable.{Row}
+use Rattle.grammar.specs.Grammars.{Condition, next, query, Symbol, token, derived, condition, Production, Names, View, asked, met}
 use Rattle.grammar.specs.Derivations.{Has, Derives, end, taken, held, entered}
 use Rattle.grammar.specs.First.{allows, skips, starts, empty, first, canBegin, canSkip}
 use Rattle.grammar.specs.Reading.{ready}

@@ -8,8 +8,8 @@ use native.Mathlib.Nat.{suc-add, zero-add}
 use native.Mathlib.Omega.{arith}
 use lib.ListN.{length, length-append}
 use borrow.Author.Tests.{leb-true}
-use Rattle.grammar.specs.Grammars.{Symbol, derived, Makes, givesRow, rowOf, givesKind, noRow, Production, Names, View}
 use Rattle.tree.specs.TreeTable.{Row}
+use Rattle.grammar.specs.Grammars.{Symbol, derived, Makes, givesRow, rowOf, givesKind, noRow, Production, Names, View}
 use Rattle.grammar.specs.Rows.{above, made, levels}
 use Rattle.grammar.specs.Derivations.{Derives, end, taken, held, entered}
 use Rattle.grammar.specs.Forests.{Forest, nothing, tree}

@@ -9,8 +9,8 @@ use lib.Dec.{leb}
 use borrow.Author.Tests.{leb-true}
 use Rattle.lexer.specs.Tests.{and, pick, among}
 use Rattle.lexer.proofs.Laws.Tests.{and-left, and-right}
-use Rattle.grammar.specs.Grammars.{Condition, Symbol, token, derived, condition, Production, Names, View, agrees, met}
 use Rattle.tree.specs.TreeTable.{Row}
+use Rattle.grammar.specs.Grammars.{Condition, Symbol, token, derived, condition, Production, Names, View, agrees, met}
 use Rattle.grammar.specs.Rows.{levels}
 use Rattle.grammar.specs.Reading.{Outcome, spent, selected, choice, joined, readWithin, breadth, whole, reading}
 use Rattle.grammar.proofs.Laws.CheckLaws.{and-else, implies-false, every-has}

@@ -11,14 +11,14 @@ use Rattle.lexer.specs.Tests.{and, or, pick, among}
 use Rattle.lexer.specs.internal.Kinds.{keyword, sizeof, string, dollar, ampersand, at, percent, colon, bar, equal, semicolon, tilde}
 use Rattle.lexer.specs.internal.Kinds.{leftBrace, rightBrace, leftParen, rightParen, leftBracket, rightBracket, bang, caret, backslash}
 use Rattle.lexer.specs.internal.Kinds.{question, dot, hash, star, questionQuestion, arrow, lastKind}
-use Rattle.grammar.specs.Grammars.{query, token, derived, when, unless, givesRow, rowOf, givesKind, noRow, Production, agrees}
-use Rattle.grammar.specs.Grammars.{asked, met}
 use Rattle.tree.specs.internal.RowKinds.{programRow, importRow, foreignRow, traitRow, implRow, functionRow, structRow, enumRow}
 use Rattle.tree.specs.internal.RowKinds.{constantRow, headerRow, parameterRow, variantRow, listRow, blockRow, letRow, setNameRow}
 use Rattle.tree.specs.internal.RowKinds.{setElementRow, deferRow, whileRow, foreachRow, literalRow, nameRow, binaryRow, notRow}
 use Rattle.tree.specs.internal.RowKinds.{returnRow, complementRow, tryRow, closureRow, sizeofRow, aggregateRow, sliceRow}
 use Rattle.tree.specs.internal.RowKinds.{conditionalRow, callRow, memberRow, castRow, matchRow, armRow, payloadRow, baseTypeRow}
 use Rattle.tree.specs.internal.RowKinds.{pointerRow, optionalRow, sliceTypeRow, resultRow, functionTypeRow, instanceRow, namedTypeRow}
+use Rattle.grammar.specs.Grammars.{query, token, derived, when, unless, givesRow, rowOf, givesKind, noRow, Production, agrees}
+use Rattle.grammar.specs.Grammars.{asked, met}
 use Rattle.grammar.specs.internal.Nonterminals.{program, declarations, declaration, alias, interface, interfaceRest, methods}
 use Rattle.grammar.specs.internal.Nonterminals.{method, body, functions, function, definition, mutable, fields, field, fieldName}
 use Rattle.grammar.specs.internal.Nonterminals.{parameters, parameter, variants, variant, payloadTypes, typeParameters, nameList}

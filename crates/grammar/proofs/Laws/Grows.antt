@@ -6,8 +6,8 @@ use mathlib.Core.Bool.{Bool, true, false}
 use mathlib.Core.List.{List, [], _∷_}
 use native.Mathlib.Omega.{arith}
 use Rattle.lexer.specs.Tests.{pick, among}
-use Rattle.grammar.specs.Grammars.{Symbol, token, derived, condition, Production, Names, View, met}
 use Rattle.tree.specs.TreeTable.{Row}
+use Rattle.grammar.specs.Grammars.{Symbol, token, derived, condition, Production, Names, View, met}
 use Rattle.grammar.specs.Rows.{levels}
 use Rattle.grammar.specs.Derivations.{Derives, end, taken, held, entered}
 use Rattle.grammar.specs.Reading.{Outcome, ok, stuck, deep, spent, Choice, none, selected, choice, onward, descend, enter, joined}

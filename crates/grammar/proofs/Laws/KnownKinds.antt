@@ -9,8 +9,8 @@ use lib.Dec.{eqb}
 use borrow.Author.Tests.{eqb-true, eq-eqb}
 use Rattle.lexer.specs.Tests.{or, between}
 use Rattle.lexer.proofs.Laws.Tests.{and-left, and-right, or-else, between-range}
-use Rattle.grammar.specs.Grammars.{Symbol, Makes, givesRow, rowOf, givesKind, noRow, Production, Names, View, agrees}
 use Rattle.tree.specs.TreeTable.{Row}
+use Rattle.grammar.specs.Grammars.{Symbol, Makes, givesRow, rowOf, givesKind, noRow, Production, Names, View, agrees}
 use Rattle.grammar.specs.Rows.{above, made, passed, firstSaid, levels}
 use Rattle.grammar.specs.Derivations.{Derives, end, taken, held, entered, Derivation, derivation}
 use Rattle.grammar.specs.Forests.{Forest}

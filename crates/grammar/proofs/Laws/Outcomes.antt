@@ -6,8 +6,8 @@ use mathlib.Core.Bool.{Bool, true, false}
 use mathlib.Core.List.{List}
 use native.Mathlib.Omega.{arith}
 use Rattle.lexer.specs.Tests.{pick}
-use Rattle.grammar.specs.Grammars.{Production}
 use Rattle.tree.specs.TreeTable.{Row}
+use Rattle.grammar.specs.Grammars.{Production}
 use Rattle.grammar.specs.Rows.{levels}
 use Rattle.grammar.specs.Reading.{Outcome, ok, stuck, deep, spent, Choice, none, selected, onward, descend, enter}
 

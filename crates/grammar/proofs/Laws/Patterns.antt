@@ -8,8 +8,8 @@ use lib.ListN.{drop, getD}
 use lib.Seq.{drop-drop}
 use borrow.Author.Tests.{eqb-true}
 use Rattle.lexer.specs.Tests.{and, pick, among}
-use Rattle.lexer.proofs.Laws.Tests.{or-false}
 use Rattle.lexer.specs.Items.{Item}
+use Rattle.lexer.proofs.Laws.Tests.{or-false}
 use Rattle.grammar.specs.Grammars.{endOfTokens}
 use Rattle.grammar.specs.Questions.{Piece, oneOf, someOf, spelled, isText, runOf, fits}
 use Rattle.grammar.specs.Languages.{noItem}

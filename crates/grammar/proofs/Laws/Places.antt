@@ -9,9 +9,9 @@ use lib.Dec.{eqb, ltb}
 use borrow.Author.Tests.{lt-ltb}
 use Rattle.lexer.specs.Tests.{or, among}
 use Rattle.lexer.proofs.Laws.Tests.{and-left, and-right, or-else}
+use Rattle.tree.specs.TreeTable.{Row}
 use Rattle.grammar.specs.Grammars.{endOfTokens, next, Symbol, token, derived, condition, when, Makes, givesRow, rowOf, givesKind}
 use Rattle.grammar.specs.Grammars.{noRow, Production, Names, View, agrees, met}
-use Rattle.tree.specs.TreeTable.{Row}
 use Rattle.grammar.specs.Rows.{levels}
 use Rattle.grammar.specs.First.{canBegin, canSkip}
 use Rattle.grammar.specs.Reading.{Outcome, stuck, deep, selected, choice, joined, readWithin, breadth, whole, reading}

@@ -9,8 +9,8 @@ use lib.ListN.{length}
 use borrow.Author.Tests.{eqb-true}
 use Rattle.lexer.specs.Tests.{and, or, among}
 use Rattle.lexer.proofs.Laws.Tests.{and-left, and-right, or-else}
-use Rattle.grammar.specs.Grammars.{endOfTokens, next, Symbol, derived, when, Production, Names, View, agrees, asked, met}
 use Rattle.tree.specs.TreeTable.{Row}
+use Rattle.grammar.specs.Grammars.{endOfTokens, next, Symbol, derived, when, Production, Names, View, agrees, asked, met}
 use Rattle.grammar.specs.Derivations.{Derives, end, taken, held, entered, Derivation, derivation}
 use Rattle.grammar.specs.First.{allows, skips, starts}
 use Rattle.grammar.specs.Reading.{Outcome, ok, stuck, deep, spent, breadth, whole, readWithin, reading}

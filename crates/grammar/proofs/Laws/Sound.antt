@@ -5,8 +5,8 @@ use mathlib.Core.Path.{_≡_, subst}
 use mathlib.Core.Bool.{true}
 use mathlib.Core.List.{List, [], _∷_}
 use Rattle.lexer.specs.Tests.{among}
-use Rattle.grammar.specs.Grammars.{Symbol, token, derived, condition, Production, Names, View, met}
 use Rattle.tree.specs.TreeTable.{Row}
+use Rattle.grammar.specs.Grammars.{Symbol, token, derived, condition, Production, Names, View, met}
 use Rattle.grammar.specs.Rows.{levels}
 use Rattle.grammar.specs.Derivations.{Derives, end, taken, held, entered}
 use Rattle.grammar.specs.Reading.{ok, selected, choice, joined, readWithin}

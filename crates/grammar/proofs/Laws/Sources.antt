@@ -6,11 +6,11 @@ use mathlib.Core.Bool.{true}
 use mathlib.Core.List.{List, [], _∷_}
 use lib.ListN.{length}
 use Rattle.lexer.specs.Tokens.{Token, cleanly, scan}
+use Rattle.lexer.specs.Items.{Item, items}
 use Rattle.lexer.proofs.Laws.Sizes.{spelled}
 use Rattle.lexer.proofs.Laws.Places.{tokens-placed}
-use Rattle.lexer.specs.Items.{Item, items}
-use Rattle.grammar.specs.Grammars.{derived, Production, View}
 use Rattle.tree.specs.TreeTable.{Row}
+use Rattle.grammar.specs.Grammars.{derived, Production, View}
 use Rattle.grammar.specs.Derivations.{Derives, derivation}
 use Rattle.grammar.specs.Forests.{Forest}
 use Rattle.grammar.specs.Reading.{Outcome, ok, stuck, deep, spent, whole, readWithin}
@@ -20,12 +20,12 @@ use Rattle.grammar.proofs.Laws.Checks.{Hints, Passes}
 use Rattle.grammar.proofs.Laws.Follow.{Steady}
 use Rattle.grammar.proofs.Laws.Grows.{Grows, byLevels}
 use Rattle.grammar.proofs.Laws.Takes.{from, allTaken, takes-once}
-use Rattle.grammar.proofs.Laws.Forests.{forest as trees}
 use Rattle.grammar.proofs.Laws.KnownKinds.{KindsTo, kinds-known, Top, one-top}
 use Rattle.grammar.proofs.Laws.Readings.{Counted, reading-sound, reading-unspent, reading-complete, derivations-same, reading-from}
 use Rattle.grammar.proofs.Laws.Readings.{reading-grows, stuck-none as no-stuck, deep-none as no-deep, derivation-few}
-use Rattle.grammar.proofs.Laws.Places.{stuck-at as stuck-place, deep-at as deep-place}
 use Rattle.grammar.proofs.Laws.Views.{classes, Kinds, items-length, items-kinds, view-counted}
+use Rattle.grammar.proofs.Laws.Forests.{forest as trees}
+use Rattle.grammar.proofs.Laws.Places.{stuck-at as stuck-place, deep-at as deep-place}
 
 -- what is asked of a language
 pub record Fit (l : Language) : Type 0 where

@@ -11,14 +11,14 @@ use lib.ListN.{getD}
 use borrow.Author.Tests.{eqb-true, eq-eqb, ne-eqb}
 use Rattle.lexer.specs.Tests.{and, or, pick, among}
 use Rattle.lexer.specs.internal.Kinds.{ident, leftBrace, leftBracket, lastKind}
-use Rattle.lexer.proofs.Laws.Tests.{or-false, and-left, or-left, or-right}
 use Rattle.lexer.specs.Items.{Item}
+use Rattle.lexer.proofs.Laws.Tests.{or-false, and-left, or-left, or-right}
 use Rattle.typenames.specs.TypeNames.{opening17, isNamed}
+use Rattle.tree.specs.TreeTable.{Row}
+use Rattle.tree.specs.internal.RowKinds.{namedTypeRow}
 use Rattle.grammar.specs.Grammars.{query, Symbol, token, derived, condition, when, unless, givesRow, noRow, Production, Names, View}
 use Rattle.grammar.specs.Grammars.{agrees, asked, met}
-use Rattle.tree.specs.TreeTable.{Row}
 use Rattle.grammar.specs.Derivations.{Has, here, there, Derives, end, taken, held, entered}
-use Rattle.tree.specs.internal.RowKinds.{namedTypeRow}
 use Rattle.grammar.specs.internal.Nonterminals.{mutable, nameList, type, structParameters}
 use Rattle.grammar.specs.Classes.{typeName}
 use Rattle.grammar.specs.internal.Classes.{name, typeWord}

@@ -9,8 +9,9 @@ use lib.Dec.{eqb}
 use Rattle.lexer.specs.Tests.{and, or, between, pick, among}
 use Rattle.lexer.specs.internal.Kinds.{ident, keyword, boolean, dollar, ampersand, at, percent, colon, rightBrace, leftParen, rightParen}
 use Rattle.lexer.specs.internal.Kinds.{leftBracket, rightBracket, bang, question, star, arrow}
-use Rattle.grammar.specs.Grammars.{endOfTokens, agrees, Names, Production}
+use Rattle.lexer.specs.Items.{Item}
 use Rattle.tree.specs.internal.RowKinds.{programRow, namedTypeRow}
+use Rattle.grammar.specs.Grammars.{endOfTokens, agrees, Names, Production}
 use Rattle.grammar.specs.Rows.{levels}
 use Rattle.grammar.specs.First.{allows, skips, starts, anyOf, emptyWithin, firstWithin, empty, first, canBegin, canSkip}
 use Rattle.grammar.specs.Reading.{breadth, whole}
@@ -24,7 +25,6 @@ use Rattle.grammar.specs.internal.Nonterminals.{tildeStatement, expressi
 use Rattle.grammar.specs.internal.Nonterminals.{structParameters}
 use Rattle.grammar.specs.Nurl.{productions}
 use Rattle.grammar.specs.Languages.{language17, view}
-use Rattle.lexer.specs.Items.{Item}
 use Rattle.grammar.proofs.Laws.Checks.{Hints, implies, every, may, firstClosed, emptyClosed, flows, followClosed, live, asks}
 use Rattle.grammar.proofs.Laws.Checks.{opposed, excludes, exclusive, below, noEnd, vanishes, needs, bounded, falls, fewerOf}
 use Rattle.grammar.proofs.Laws.Checks.{moreOf, fewRows, voiced, kindWithin, knownKind, makesRow, tops, Passes, beforeEnd, without}

@@ -11,8 +11,8 @@ use Rattle.lexer.specs.Tests.{and, pick}
 use Rattle.lexer.specs.internal.Kinds.{ident, firstKind, lastKind}
 use Rattle.lexer.specs.Editions.{Edition}
 use Rattle.lexer.specs.Tokens.{Token}
-use Rattle.lexer.proofs.Laws.Places.{Placed, placed-none, placed-more}
 use Rattle.lexer.specs.Items.{Item, itemOf, items}
+use Rattle.lexer.proofs.Laws.Places.{Placed, placed-none, placed-more}
 use Rattle.typenames.specs.TypeNames.{isNamed}
 use Rattle.grammar.specs.Grammars.{Names}
 use Rattle.grammar.specs.Classes.{typeName}

@@ -3,7 +3,7 @@ use Prim.Native.Nat.{ℕ}
 use mathlib.Core.List.{List, [], _∷_}
 use lib.Dec.{ltb, leb}
 use lib.ListN.{length}
-use Rattle.lexer.specs.Refusals.{refusal}
+use Rattle.lexer.specs.Refusals.{refusalNumber}
 use Rattle.lexer.specs.Tests.{pick}
 use Rattle.lexer.specs.Editions.{Edition}
 use Rattle.lexer.specs.Tokens.{Token, Ending, clean, fault, Scan, scan}
@@ -22,7 +22,7 @@ scanned x = endedWith (length (x .found)) (x .ending)
 
 -- refusal 1, else what the source's tokens are
 unfoldable pub counted : Edition → List ℕ → Scanned
-counted e s = pick (ltb sourceLimit (length s)) (Refused (refusal "long source") 0) (scanned (scan e s))
+counted e s = pick (ltb sourceLimit (length s)) (Refused (refusalNumber "long source") 0) (scanned (scan e s))
 
 -- document 01's number and values for each case of the tokeniser's answer, as two numbers: 0 and the number of tokens, or the
 -- refusal's number and its place
@@ -36,7 +36,7 @@ countedValues e s = scannedValues (counted e s)
 
 -- "more tokens than rows": refusal 5, place the tokens needed, where there is no other
 unfoldable pub withRoom : ℕ → Scanned → Scanned
-withRoom rows (Tokens n) = pick (leb n rows) (Tokens n) (Refused (refusal "few token rows") n)
+withRoom rows (Tokens n) = pick (leb n rows) (Tokens n) (Refused (refusalNumber "few token rows") n)
 withRoom rows (Refused number place) = Refused number place
 
 -- what the tokeniser answers for a source and a table

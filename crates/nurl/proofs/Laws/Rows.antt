@@ -15,29 +15,29 @@ use Rattle.lexer.specs.Editions.{edition17}
 use Rattle.lexer.specs.Tokens.{Token, cleanly, scan}
 use Rattle.lexer.specs.Table.{sourceLimit, tokenRoom}
 use Rattle.lexer.specs.internal.TokenRows.{rowsOf, rowAt, noToken}
+use Rattle.lexer.specs.Items.{Item, items}
 use Rattle.lexer.proofs.Laws.Counts.{spelled17}
 use Rattle.lexer.proofs.Laws.Rows.{rows-of-length}
 use Rattle.lexer.proofs.Laws.Places.{Placed, placed-none, placed-more, tokens-placed, tokens-few}
-use Rattle.lexer.specs.Items.{Item, items}
 use Rattle.typenames.specs.TypeNames.{opening17}
 use Rattle.typenames.specs.internal.Prepared.{preparedNames}
 use Rattle.typenames.specs.declared.Scope.the-variants.{Program}
-use Rattle.grammar.specs.Grammars.{Names, View}
 use Rattle.tree.specs.TreeTable.{Row, treeRoom, cleared}
+use Rattle.tree.specs.internal.Trees.{put}
+use Rattle.tree.proofs.Laws.Trees.{put-placed}
+use Rattle.grammar.specs.Grammars.{Names, View}
 use Rattle.grammar.specs.Reading.{Outcome, ok, stuck, deep, spent, whole}
 use Rattle.grammar.specs.internal.Nonterminals.{program}
 use Rattle.grammar.specs.Nurl.{productions}
 use Rattle.grammar.specs.Languages.{language17}
 use Rattle.grammar.specs.Sources.{viewOf, namesOf, readTokens}
+use Rattle.grammar.proofs.Laws.Nurl17.{theorems17}
 use Rattle.answer.specs.Answers.{levelLimit, judged, result}
 use Rattle.answer.specs.declared.Answer.the-variants.{Accepted, Refused}
-use Rattle.grammar.proofs.Laws.Nurl17.{theorems17}
-use Rattle.tree.specs.internal.Trees.{put}
 use Rattle.parser.specs.internal.Steps.{Tokens}
 use Rattle.parser.specs.internal.Readings.{Gives, Reads, read, refused6, refused7, refusedBefore, ReadsWhole}
 use Rattle.parser.specs.declared.Step.{Step}
 use Rattle.parser.specs.declared.Step.the-variants.{Read}
-use Rattle.tree.proofs.Laws.Trees.{put-placed}
 use Rattle.parser.proofs.Laws.WholeRows.{cleared-put}
 use Rattle.nurl.specs.internal.Results.{treeResult}
 

@@ -2,9 +2,9 @@
 use Prim.Native.Nat.{ℕ}
 use mathlib.Core.List.{List}
 use Rattle.lexer.specs.internal.TokenRows.{rowsOf}
+use Rattle.tree.specs.TreeTable.{treeRoom}
 use Rattle.grammar.specs.Languages.{language17}
 use Rattle.grammar.specs.Sources.{readTokens}
-use Rattle.tree.specs.TreeTable.{treeRoom}
 use Rattle.answer.specs.Answers.{levelLimit, judged, Result, result}
 
 -- No. 6 to 8 of document 01's table, or acceptance: the answer, and what the tree table holds afterwards

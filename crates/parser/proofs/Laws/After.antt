@@ -11,23 +11,23 @@ use native.Mathlib.Nat.{zero-add}
 use lib.ListN.{length, length-append}
 use Rattle.lexer.specs.Tests.{pick, among}
 use Rattle.lexer.specs.Table.{sourceLimit, tokenRoom}
+use Rattle.tree.specs.TreeTable.{Row}
+use Rattle.tree.specs.internal.Trees.{put, putRow}
+use Rattle.tree.proofs.Laws.Trees.{put-append, length-put, put-parent}
 use Rattle.grammar.specs.Grammars.{Condition, Symbol, token, derived, condition, Makes, givesRow, rowOf, givesKind, noRow, Production}
 use Rattle.grammar.specs.Grammars.{Names, View, met}
-use Rattle.tree.specs.TreeTable.{Row}
 use Rattle.grammar.specs.Rows.{above, made, passed, firstSaid, levels}
 use Rattle.grammar.specs.Reading.{Outcome, ok, stuck, deep, spent, none, selected, choice, onward}
 use Rattle.grammar.specs.internal.Productions.{ruleOf}
-use Rattle.tree.specs.internal.Trees.{put, putRow}
 use Rattle.parser.specs.internal.Readings.{Gives, Reads, read, refused6, refused7}
-use Rattle.parser.specs.internal.Readings as readings
 use Rattle.parser.specs.internal.Steps.{Within, inside, elsewhere, Spans, spans, from-refused, to-refused, Small, small, over}
 use Rattle.parser.specs.internal.Steps.{refusedAt, takenBy, opened, rowLeft, closed}
 use Rattle.parser.specs.declared.Step.{Step}
 use Rattle.parser.specs.declared.Step.the-variants.{Read, Refused}
+use Rattle.parser.specs.internal.Readings as readings
 use Rattle.parser.proofs.Laws.Gives.{after, wrapped, Takes, takes, vain, gives-end, gives-token, gives-token-stuck, gives-held}
 use Rattle.parser.proofs.Laws.Gives.{gives-none, gives-within, gives-then, gives-then-stuck, gives-then-deep, takes-inlined}
 use Rattle.parser.proofs.Laws.Gives.{gives-unheld, barred-stuck}
-use Rattle.tree.proofs.Laws.Trees.{put-append, length-put, put-parent}
 
 -- `After g v count e n below m least more ts ss s table s' table'`: of the symbols ts, read with n levels from the step s and the table
 -- on, a production that makes m is begun and its symbols ss are left, with so many levels below it; s' and table' are what is reached

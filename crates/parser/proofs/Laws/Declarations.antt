@@ -10,18 +10,18 @@ use Rattle.lexer.specs.Tests.{and, between}
 use Rattle.lexer.specs.internal.Kinds.{ident, string, at, percent, arrow}
 use Rattle.lexer.specs.Table.{tokenRoom}
 use Rattle.lexer.specs.internal.TokenRows.{rowsOf}
+use Rattle.tree.specs.internal.RowKinds.{importRow, foreignRow, functionRow}
 use Rattle.grammar.specs.Grammars.{Symbol, token, derived, Makes, givesRow, rowOf, Names, View}
 use Rattle.grammar.specs.Rows.{levels}
 use Rattle.grammar.specs.Reading.{selected, choice}
-use Rattle.tree.specs.internal.RowKinds.{importRow, foreignRow, functionRow}
 use Rattle.grammar.specs.internal.Nonterminals.{declarations, declaration, interface, interfaceRest, function, fields, typeParameters}
 use Rattle.grammar.specs.internal.Nonterminals.{parameters, type, block}
 use Rattle.grammar.specs.internal.Classes.{name}
 use Rattle.grammar.specs.Nurl.{productions}
-use Rattle.grammar.specs.internal.Productions.{ruleOf, kindToken as only}
 use Rattle.grammar.specs.Languages.{language17}
 use Rattle.grammar.specs.Sources.{viewOf}
 use Rattle.grammar.specs.internal.Alternatives.{kindOfClass, kindAlternative, nth}
+use Rattle.grammar.specs.internal.Productions.{ruleOf, kindToken as only}
 use Rattle.grammar.proofs.Laws.Checks.{below, implies}
 use Rattle.grammar.proofs.Laws.CheckLaws.{implies-true}
 use Rattle.grammar.proofs.Laws.Views.{classes}
@@ -152,8 +152,8 @@ module _ (source tokens : List ℕ) (good : Tokens tokens) (e : Names) where
       → Within tokens 1 s → n ≡ suc below → s₀ ≡ opened s → s₁ ≡ takenKind tokens string s₀ → s₂ ≡ takenIf tokens ident s₁
       → Under declaration n below (givesRow importRow) 2 [] s t s₂ t
   unfolding levels between and
-  import beginsPart within level to₀ to₁ to₂ =
-      let a₀ = declaration-begun 1 declaration-import declaration-import-begins beginsPart within level refl to₀ in
+  import begins within level to₀ to₁ to₂ =
+      let a₀ = declaration-begun 1 declaration-import declaration-import-begins begins within level refl to₀ in
       took-if source tokens good e ident name-marks (λ j. alias-some v e j (class-low source tokens good e j))
       (λ j. alias-none v e j (class-low source tokens good e j)) (took-mark source tokens good e string a₀ refl to₁) to₂
 
@@ -163,9 +163,9 @@ module _ (source tokens : List ℕ) (good : Tokens tokens) (e : Names) where
       → s₁ ≡ takenKind tokens string s₀ → s₂ ≡ takenKind tokens at s₁ → s₃ ≡ takenKind tokens ident s₂ → Part below 0 fields s₃ t s₄ t₁
       → s₅ ≡ takenKind tokens arrow s₄ → Part below 1 type s₅ t₁ s₆ t₂ → Under declaration n below (givesRow foreignRow) 6 [] s t s₆ t₂
   unfolding levels between and
-  foreign beginsPart within level to₀ to₁ to₂ to₃ d₄ to₅ d₆ =
+  foreign begins within level to₀ to₁ to₂ to₃ d₄ to₅ d₆ =
       let fixed = names-fixed source tokens good e in
-      let a₀ = declaration-begun 2 declaration-foreign declaration-foreign-begins beginsPart within level refl to₀ in
+      let a₀ = declaration-begun 2 declaration-foreign declaration-foreign-begins begins within level refl to₀ in
       let a₂ = took-mark source tokens good e at (took-mark source tokens good e string a₀ refl to₁) refl to₂ in
       let a₄ = went productions v tokens e fixed (took-name source tokens good e a₂ to₃) d₄ in
       went productions v tokens e fixed (took-mark source tokens good e arrow a₄ refl to₅) d₆

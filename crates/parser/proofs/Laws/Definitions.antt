@@ -12,19 +12,19 @@ use Rattle.lexer.specs.internal.Kinds.{ident, bar, tilde, leftBrace, rightBrace
 use Rattle.lexer.specs.Table.{tokenRoom}
 use Rattle.lexer.specs.internal.TokenRows.{rowsOf, kindAt}
 use Rattle.lexer.proofs.Laws.Tests.{and-left}
+use Rattle.tree.specs.internal.RowKinds.{structRow, enumRow, constantRow, variantRow}
 use Rattle.grammar.specs.Grammars.{Condition, query, Symbol, token, derived, when, unless, Makes, givesRow, rowOf, givesKind, noRow}
 use Rattle.grammar.specs.Grammars.{Names, View, asked}
 use Rattle.grammar.specs.Rows.{levels}
 use Rattle.grammar.specs.Reading.{selected, choice}
-use Rattle.tree.specs.internal.RowKinds.{structRow, enumRow, constantRow, variantRow}
 use Rattle.grammar.specs.internal.Nonterminals.{declaration, definition, mutable, fields, variants, variant, payloadTypes, typeParameters}
 use Rattle.grammar.specs.internal.Nonterminals.{literal, type, structParameters}
 use Rattle.grammar.specs.internal.Classes.{name}
 use Rattle.grammar.specs.Nurl.{productions, plainName}
-use Rattle.grammar.specs.internal.Productions.{ruleOf, opensStruct, kindToken as only}
 use Rattle.grammar.specs.Languages.{language17}
 use Rattle.grammar.specs.Sources.{viewOf}
 use Rattle.grammar.specs.internal.Alternatives.{kindOfClass, kindAlternative, nth}
+use Rattle.grammar.specs.internal.Productions.{ruleOf, opensStruct, kindToken as only}
 use Rattle.grammar.proofs.Laws.Views.{classes}
 use Rattle.grammar.proofs.Laws.Alternatives17.{declaration-definition, definition-struct, definition-enum, definition-constant}
 use Rattle.grammar.proofs.Laws.Alternatives17.{definition-constant-tilde, definition-none, mutable-some, mutable-none, variants-more}
@@ -70,8 +70,8 @@ module _ (source tokens : List ℕ) (good : Tokens tokens) (e : Names) where
   defined : {n below : ℕ} {s s₀ : Step} {t : List ℕ} → kindAlternative declaration (nextKind tokens s) ≡ 4 → Within tokens 1 s
       → n ≡ suc below → s₀ ≡ opened s → Under declaration n below rowOf 1 (derived definition ∷ []) s t s₀ t
   unfolding levels
-  defined beginsPart within level =
-      declaration-begun source tokens good e 4 declaration-definition declaration-definition-begins beginsPart within level refl
+  defined begins within level =
+      declaration-begun source tokens good e 4 declaration-definition declaration-definition-begins begins within level refl
 
   struct-ident : (s : Step) → AnswersKinds (query opensStruct) tokens s true → (j k : ℕ) → s ≡ Read j k → kindOfClass (v .class e j) ≡ ident
   struct-ident s opens j k read =
@@ -92,9 +92,9 @@ module _ (source tokens : List ℕ) (good : Tokens tokens) (e : Names) where
       → s₁ ≡ takenKind tokens ident s₀ → Part below 0 typeParameters s₁ t s₂ t₁ → s₃ ≡ takenKind tokens leftBrace s₂
       → Part below 0 fields s₃ t₁ s₄ t₂ → s₅ ≡ takenKind tokens rightBrace s₄ → Under declaration n below (givesRow structRow) 4 [] s t s₅ t₂
   unfolding between and
-  struct {s₀ = s₀} beginsPart within level to₀ opens to₁ d₂ to₃ d₄ to₅ =
+  struct {s₀ = s₀} begins within level to₀ opens to₁ d₂ to₃ d₄ to₅ =
       let fixed = names-fixed source tokens good e in
-      let said = spoken productions v tokens e fixed (defined beginsPart within level to₀) (struct-takes s₀ opens) refl in
+      let said = spoken productions v tokens e fixed (defined begins within level to₀) (struct-takes s₀ opens) refl in
       let asks = held productions v tokens e fixed said
       (met-here source tokens e (query opensStruct) s₀ true (sym (opens source e))) in
       let list = struct-list source tokens good e d₂ in
@@ -108,10 +108,10 @@ module _ (source tokens : List ℕ) (good : Tokens tokens) (e : Names) where
       → s₂ ≡ takenKind tokens ident s₁ → s₃ ≡ takenKind tokens leftBrace s₂ → Part below 0 variants s₃ t s₄ t₁
       → s₅ ≡ takenKind tokens rightBrace s₄ → Under declaration n below (givesRow enumRow) 5 [] s t s₅ t₁
   unfolding between and
-  enum beginsPart within level to₀ is to₁ to₂ to₃ d₄ to₅ =
+  enum begins within level to₀ is to₁ to₂ to₃ d₄ to₅ =
       let said = spoken-by source tokens good e
       (ruleOf definition (givesKind enumRow) (only bar ∷ token name ∷ only leftBrace ∷ derived variants ∷ only rightBrace ∷ []))
-      (defined beginsPart within level to₀) (λ j k. definition-enum v e j (class-low source tokens good e j) (k ∙ is)) refl in
+      (defined begins within level to₀) (λ j k. definition-enum v e j (class-low source tokens good e j) (k ∙ is)) refl in
       let a₂ = took-name source tokens good e (took-mark source tokens good e bar said refl to₁) to₂ in
       let a₃ = took-mark source tokens good e leftBrace a₂ refl to₃ in
       took-mark source tokens good e rightBrace (went productions v tokens e (names-fixed source tokens good e) a₃ d₄) refl to₅
@@ -146,9 +146,9 @@ module _ (source tokens : List ℕ) (good : Tokens tokens) (e : Names) where
       → eqb (nextKind tokens s₀) bar ≡ false → s₁ ≡ takenIf tokens tilde s₀ → Part below 1 type s₁ t s₂ t₁
       → s₃ ≡ takenKind tokens ident s₂ → Part below 1 literal s₃ t₁ s₄ t₂ → Under declaration n below (givesRow constantRow) 4 [] s t s₄ t₂
   unfolding between and
-  constant {s₀ = s₀} beginsPart within level to₀ shut other to₁ d₂ to₃ d₄ =
+  constant {s₀ = s₀} begins within level to₀ shut other to₁ d₂ to₃ d₄ =
       let fixed = names-fixed source tokens good e in
-      let said = spoken productions v tokens e fixed (defined beginsPart within level to₀) (constant-takes s₀ shut other) refl in
+      let said = spoken productions v tokens e fixed (defined begins within level to₀) (constant-takes s₀ shut other) refl in
       let asks = held productions v tokens e fixed said
       (met-here source tokens e (query opensStruct) s₀ false (sym (shut source e))) in
       let a₁ = took-if source tokens good e tilde (mark-marks tilde refl) (λ j. mutable-some v e j (class-low source tokens good e j))

@@ -13,25 +13,24 @@ use Rattle.lexer.specs.internal.Kinds.{ident, int, bar, at, leftBrace, rightBra
 use Rattle.lexer.specs.Table.{tokenRoom}
 use Rattle.lexer.specs.internal.TokenRows.{rowsOf, kindAt}
 use Rattle.lexer.proofs.Laws.Tests.{and-left, or-else}
+use Rattle.tree.specs.internal.RowKinds.{literalRow, nameRow, tryRow, closureRow, sizeofRow, aggregateRow, sliceRow, callRow, castRow}
+use Rattle.tree.specs.internal.RowKinds.{matchRow, blockRow}
 use Rattle.grammar.specs.Grammars.{query, Symbol, token, derived, when, unless, Makes, givesRow, rowOf, givesKind, noRow, Production}
 use Rattle.grammar.specs.Grammars.{Names, View, asked, met}
 use Rattle.grammar.specs.Rows.{levels}
 use Rattle.grammar.specs.Reading.{deep, none, selected, choice}
-use Rattle.tree.specs.internal.RowKinds.{literalRow, nameRow, tryRow, closureRow, sizeofRow, aggregateRow, sliceRow, callRow, castRow}
-use Rattle.tree.specs.internal.RowKinds.{matchRow, blockRow}
 use Rattle.grammar.specs.internal.Nonterminals.{parameters, block, statements, expressions, expression, literal, tryOrClosure}
 use Rattle.grammar.specs.internal.Nonterminals.{typeArguments, castRest, selector, arms, type}
 use Rattle.grammar.specs.internal.Classes.{literals}
 use Rattle.grammar.specs.Nurl.{productions}
-use Rattle.grammar.specs.internal.Productions.{ruleOf, aStar, opensClosure, zeroOrOne, kindToken as only}
 use Rattle.grammar.specs.Languages.{language17}
 use Rattle.grammar.specs.Sources.{viewOf}
 use Rattle.grammar.specs.internal.Alternatives.{kindOfClass, kindAlternative, nth}
+use Rattle.grammar.specs.internal.Productions.{ruleOf, aStar, opensClosure, zeroOrOne, kindToken as only}
 use Rattle.grammar.proofs.Laws.Checks.{below, implies}
 use Rattle.grammar.proofs.Laws.CheckLaws.{implies-true, implies-false}
 use Rattle.grammar.proofs.Laws.Views.{classes}
 use Rattle.grammar.proofs.Laws.Groups17.{kindNumber, kind-same}
-use Rattle.grammar.proofs.Laws.Alternatives17 as alternatives
 use Rattle.grammar.proofs.Laws.Alternatives17.{expression-at, expression-literal, expression-name, expression-binary, expression-not}
 use Rattle.grammar.proofs.Laws.Alternatives17.{expression-return, expression-complement, expression-backslash, expression-sizeof}
 use Rattle.grammar.proofs.Laws.Alternatives17.{expression-conditional, expression-block, expression-call, expression-slice}
@@ -39,12 +38,13 @@ use Rattle.grammar.proofs.Laws.Alternatives17.{expression-aggregate, expression
 use Rattle.grammar.proofs.Laws.Alternatives17.{literal-none, block-one, expressions-more, expressions-done, castRest-pointer}
 use Rattle.grammar.proofs.Laws.Alternatives17.{castRest-other, castRest-none, tryOrClosure-closure, tryOrClosure-closure-arrow}
 use Rattle.grammar.proofs.Laws.Alternatives17.{tryOrClosure-try, tryOrClosure-none}
+use Rattle.grammar.proofs.Laws.Alternatives17 as alternatives
 use Rattle.parser.specs.internal.Readings.{Gives, Reads}
 use Rattle.parser.specs.internal.Steps.{Tokens, Within, nextKind, kindsAt, beginsPart, askedAt, AnswersKinds, refusedAt, takenKind}
 use Rattle.parser.specs.internal.Steps.{opened, closed}
-use Rattle.parser.proofs.Laws.Operators.{Operator, binary, negation, return, complement, conditional, member}
 use Rattle.parser.specs.declared.Step.{Step}
 use Rattle.parser.specs.declared.Step.the-variants.{Read}
+use Rattle.parser.proofs.Laws.Operators.{Operator, binary, negation, return, complement, conditional, member}
 use Rattle.parser.proofs.Laws.After.{After, start, went, looked, spoken, held, wider, done, deep-at, list-more, list-done}
 use Rattle.parser.proofs.Laws.Views.{class-kind, class-low, class-shows, names-fixed}
 use Rattle.parser.proofs.Laws.Gives.{gives-deep, gives-inlined, barred-part, barred-condition, Takes, takes, vain}
@@ -245,10 +245,10 @@ module _ (source tokens : List ℕ) (good : Tokens tokens) (e : Names) where
   pub literal-leaf : {n below : ℕ} {s r : Step} {t after : List ℕ} → kindAlternative expression (nextKind tokens s) ≡ 1
       → Within tokens 1 s → n ≡ suc below → r ≡ opened s → after ≡ closed literalRow s (opened s) t → Part n 1 literal s t r after
   unfolding levels
-  literal-leaf beginsPart within level answer table =
+  literal-leaf begins within level answer table =
       closed-by productions v tokens e (names-fixed source tokens good e)
       (begun-by source tokens good e (λ (k : ℕ). eqb (kindAlternative expression k) 1) literal-begins literal-chosen
-      (eq-eqb _ _ beginsPart) within level refl refl) (omega arith) answer table
+      (eq-eqb _ _ begins) within level refl refl) (omega arith) answer table
 
   pub literal-stuck : {n : ℕ} (s : Step) {t : List ℕ} → (kindAlternative expression (nextKind tokens s) ≡ 1 → ⊥)
       → Part n 1 literal s t (refusedAt 6 s) t
@@ -272,7 +272,7 @@ module _ (source tokens : List ℕ) (good : Tokens tokens) (e : Names) where
 
   pub literal-expression : {n below : ℕ} {s r : Step} {t after : List ℕ} → kindAlternative expression (nextKind tokens s) ≡ 1
       → Within tokens 1 s → n ≡ suc below → r ≡ opened s → after ≡ closed literalRow s (opened s) t → Part n 1 expression s t r after
-  literal-expression beginsPart within level answer table = literal-passes beginsPart within (literal-leaf beginsPart within level answer table)
+  literal-expression begins within level answer table = literal-passes begins within (literal-leaf begins within level answer table)
 
   -- a block as an expression
   pub block-passes : {n : ℕ} {s s' : Step} {t t' : List ℕ} → kindAlternative expression (nextKind tokens s) ≡ 10 → Within tokens 1 s
@@ -283,29 +283,29 @@ module _ (source tokens : List ℕ) (good : Tokens tokens) (e : Names) where
   pub name-expression : {n below : ℕ} {s r : Step} {t after : List ℕ} → kindAlternative expression (nextKind tokens s) ≡ 2
       → Within tokens 1 s → n ≡ suc below → r ≡ opened s → after ≡ closed nameRow s (opened s) t → Part n 1 expression s t r after
   unfolding levels
-  name-expression beginsPart within level answer table =
+  name-expression begins within level answer table =
       closed-by productions v tokens e (names-fixed source tokens good e)
-      (expression-begun 2 expression-name expression-name-begins beginsPart within level refl refl) (omega arith) answer table
+      (expression-begun 2 expression-name expression-name-begins begins within level refl refl) (omega arith) answer table
 
   -- a mark and so many expressions
   pub operation : {n below a count kind : ℕ} {s s₀ : Step} {t : List ℕ} → Operator a count kind
       → kindAlternative expression (nextKind tokens s) ≡ a → Within tokens 1 s → n ≡ suc below → s₀ ≡ opened s
       → Under expression n below (givesRow kind) 1 (replicate count (derived expression)) s t s₀ t
   unfolding levels
-  operation binary beginsPart within level = expression-begun 3 expression-binary expression-binary-begins beginsPart within level refl
-  operation negation beginsPart within level = expression-begun 4 expression-not expression-not-begins beginsPart within level refl
-  operation return beginsPart within level = expression-begun 5 expression-return expression-return-begins beginsPart within level refl
-  operation complement beginsPart within level =
-      expression-begun 6 expression-complement expression-complement-begins beginsPart within level refl
-  operation conditional beginsPart within level =
-      expression-begun 9 expression-conditional expression-conditional-begins beginsPart within level refl
-  operation member beginsPart within level = expression-begun 14 expression-member expression-member-begins beginsPart within level refl
+  operation binary begins within level = expression-begun 3 expression-binary expression-binary-begins begins within level refl
+  operation negation begins within level = expression-begun 4 expression-not expression-not-begins begins within level refl
+  operation return begins within level = expression-begun 5 expression-return expression-return-begins begins within level refl
+  operation complement begins within level =
+      expression-begun 6 expression-complement expression-complement-begins begins within level refl
+  operation conditional begins within level =
+      expression-begun 9 expression-conditional expression-conditional-begins begins within level refl
+  operation member begins within level = expression-begun 14 expression-member expression-member-begins begins within level refl
 
   -- the mark before a try and a closure
   backslashed : {n below : ℕ} {s s₀ : Step} {t : List ℕ} → kindAlternative expression (nextKind tokens s) ≡ 7 → Within tokens 1 s
       → n ≡ suc below → s₀ ≡ opened s → Under expression n below rowOf 1 (derived tryOrClosure ∷ []) s t s₀ t
   unfolding levels
-  backslashed beginsPart within level = expression-begun 7 expression-backslash expression-backslash-begins beginsPart within level refl
+  backslashed begins within level = expression-begun 7 expression-backslash expression-backslash-begins begins within level refl
 
   abbrev tryRule : Production
   tryRule = ruleOf tryOrClosure (givesKind tryRow) (unless (query opensClosure) ∷ derived expression ∷ [])
@@ -325,10 +325,10 @@ module _ (source tokens : List ℕ) (good : Tokens tokens) (e : Names) where
       → Within tokens 1 s → n ≡ suc below → s₀ ≡ opened s → AnswersKinds (query opensClosure) tokens s₀ b → b ≡ false
       → Part below 1 expression s₀ t s₁ t₁ → Under expression n below (givesRow tryRow) 2 [] s t s₁ t₁
   unfolding asked
-  try-expression {s₀ = s₀} beginsPart within level to₀ answers whether d₁ =
+  try-expression {s₀ = s₀} begins within level to₀ answers whether d₁ =
       let fixed = names-fixed source tokens good e in
       let answer = sym whether ∙ answers source e in
-      let said = spoken productions v tokens e fixed (backslashed beginsPart within level to₀)
+      let said = spoken productions v tokens e fixed (backslashed begins within level to₀)
       (λ (j k : ℕ) (is : s₀ ≡ Read j k).
       try-takes j (asked-here source tokens e (query opensClosure) s₀ false (sym answer) j k is)) refl in
       let asks = held productions v tokens e fixed said (met-here source tokens e (query opensClosure) s₀ false (sym answer)) in
@@ -366,10 +366,10 @@ module _ (source tokens : List ℕ) (good : Tokens tokens) (e : Names) where
       → Part below 0 parameters s₀ t s₁ t₁ → s₂ ≡ takenKind tokens arrow s₁ → Part below 1 type s₂ t₁ s₃ t₂
       → Part below 1 block s₃ t₂ s₄ t₃ → Under expression n below (givesRow closureRow) 4 [] s t s₄ t₃
   unfolding between and asked
-  closure {s₀ = s₀} beginsPart within level to₀ answers whether d₁ to₂ d₃ d₄ =
+  closure {s₀ = s₀} begins within level to₀ answers whether d₁ to₂ d₃ d₄ =
       let fixed = names-fixed source tokens good e in
       let answer = sym whether ∙ answers source e in
-      let said = spoken productions v tokens e fixed (backslashed beginsPart within level to₀)
+      let said = spoken productions v tokens e fixed (backslashed begins within level to₀)
       (λ (j k : ℕ) (is : s₀ ≡ Read j k).
       takes (closure-takes j (asked-here source tokens e (query opensClosure) s₀ true (sym answer) j k is)
       (closure-opened s₀ answer j k is))) refl in
@@ -381,18 +381,18 @@ module _ (source tokens : List ℕ) (good : Tokens tokens) (e : Names) where
   pub size-of : {n below : ℕ} {s s₀ s₁ : Step} {t t₁ : List ℕ} → kindAlternative expression (nextKind tokens s) ≡ 8 → Within tokens 1 s
       → n ≡ suc below → s₀ ≡ opened s → Part below 1 type s₀ t s₁ t₁ → Under expression n below (givesRow sizeofRow) 2 [] s t s₁ t₁
   unfolding levels
-  size-of beginsPart within level to₀ d₁ =
+  size-of begins within level to₀ d₁ =
       went productions v tokens e (names-fixed source tokens good e)
-      (expression-begun 8 expression-sizeof expression-sizeof-begins beginsPart within level refl to₀) d₁
+      (expression-begun 8 expression-sizeof expression-sizeof-begins begins within level refl to₀) d₁
 
   -- `(` IDENT words? expression* `)`
   pub call : {n below : ℕ} {s s₀ s₁ s₂ s₃ s₄ : Step} {t t₁ t₂ : List ℕ} → kindAlternative expression (nextKind tokens s) ≡ 11
       → Within tokens 1 s → n ≡ suc below → s₀ ≡ opened s → s₁ ≡ takenKind tokens ident s₀ → Part below 0 typeArguments s₁ t s₂ t₁
       → Part below 0 expressions s₂ t₁ s₃ t₂ → s₄ ≡ takenKind tokens rightParen s₃ → Under expression n below (givesRow callRow) 3 [] s t s₄ t₂
   unfolding levels between and
-  call beginsPart within level to₀ to₁ d₂ d₃ to₄ =
+  call begins within level to₀ to₁ d₂ d₃ to₄ =
       let fixed = names-fixed source tokens good e in
-      let a₀ = expression-begun 11 expression-call expression-call-begins beginsPart within level refl to₀ in
+      let a₀ = expression-begun 11 expression-call expression-call-begins begins within level refl to₀ in
       let a₁ = took-name source tokens good e a₀ to₁ in
       let a₃ = went productions v tokens e fixed (went productions v tokens e fixed a₁ d₂) d₃ in
       took-mark source tokens good e rightParen a₃ refl to₄
@@ -402,9 +402,9 @@ module _ (source tokens : List ℕ) (good : Tokens tokens) (e : Names) where
       → Within tokens 1 s → n ≡ suc below → s₀ ≡ opened s → Part below 1 type s₀ t s₁ t₁ → s₂ ≡ takenKind tokens bar s₁
       → Part below 0 expressions s₂ t₁ s₃ t₂ → s₄ ≡ takenKind tokens rightBracket s₃ → Under expression n below (givesRow sliceRow) 4 [] s t s₄ t₂
   unfolding levels between and
-  slice beginsPart within level to₀ d₁ to₂ d₃ to₄ =
+  slice begins within level to₀ d₁ to₂ d₃ to₄ =
       let fixed = names-fixed source tokens good e in
-      let a₀ = expression-begun 12 expression-slice expression-slice-begins beginsPart within level refl to₀ in
+      let a₀ = expression-begun 12 expression-slice expression-slice-begins begins within level refl to₀ in
       let a₂ = took-mark source tokens good e bar (went productions v tokens e fixed a₀ d₁) refl to₂ in
       took-mark source tokens good e rightBracket (went productions v tokens e fixed a₂ d₃) refl to₄
 
@@ -414,9 +414,9 @@ module _ (source tokens : List ℕ) (good : Tokens tokens) (e : Names) where
       → Part below 0 expressions s₂ t₁ s₃ t₂ → s₄ ≡ takenKind tokens rightBrace s₃
       → Under expression n below (givesRow aggregateRow) 4 [] s t s₄ t₂
   unfolding levels between and
-  aggregate beginsPart within level to₀ d₁ to₂ d₃ to₄ =
+  aggregate begins within level to₀ d₁ to₂ d₃ to₄ =
       let fixed = names-fixed source tokens good e in
-      let a₀ = expression-begun 13 expression-aggregate expression-aggregate-begins beginsPart within level refl to₀ in
+      let a₀ = expression-begun 13 expression-aggregate expression-aggregate-begins begins within level refl to₀ in
       let a₂ = took-mark source tokens good e leftBrace (went productions v tokens e fixed a₀ d₁) refl to₂ in
       took-mark source tokens good e rightBrace (went productions v tokens e fixed a₂ d₃) refl to₄
 
@@ -432,12 +432,12 @@ module _ (source tokens : List ℕ) (good : Tokens tokens) (e : Names) where
       → b ≡ eqb (nextKind tokens s₀) star → b ≡ true → Part below 1 type s₀ t s₁ t₁ → Part below 1 expression s₁ t₁ s₂ t₂
       → Part below 0 selector s₂ t₂ s₃ t₃ → Under expression n below (givesRow castRow) 3 [] s t s₃ t₃
   unfolding levels
-  pointer-cast {s₀ = s₀} beginsPart within level to₀ answer whether d₁ d₂ d₃ =
+  pointer-cast {s₀ = s₀} begins within level to₀ answer whether d₁ d₂ d₃ =
       let fixed = names-fixed source tokens good e in
       let is = sym answer ∙ whether in
       let a₀ = looked-by source tokens good e
       (ruleOf castRest noRow (when aStar ∷ derived type ∷ derived expression ∷ derived selector ∷ []))
-      (expression-begun 15 expression-cast expression-cast-begins beginsPart within level refl to₀)
+      (expression-begun 15 expression-cast expression-cast-begins begins within level refl to₀)
       (λ j k. castRest-pointer v e j (class-low source tokens good e j) (k ∙ eqb-true (nextKind tokens s₀) star is)) refl in
       let a₁ = went productions v tokens e fixed (held productions v tokens e fixed a₀ (star-met true s₀ is)) d₁ in
       went productions v tokens e fixed (went productions v tokens e fixed a₁ d₂) d₃
@@ -460,11 +460,11 @@ module _ (source tokens : List ℕ) (good : Tokens tokens) (e : Names) where
       → Within tokens 1 s → n ≡ suc below → s₀ ≡ opened s → b ≡ eqb (nextKind tokens s₀) star → b ≡ false
       → Part below 1 type s₀ t s₁ t₁ → Part below 1 expression s₁ t₁ s₂ t₂ → Under expression n below (givesRow castRow) 3 [] s t s₂ t₂
   unfolding levels
-  plain-cast {s₀ = s₀} beginsPart within level to₀ answer whether d₁ d₂ =
+  plain-cast {s₀ = s₀} begins within level to₀ answer whether d₁ d₂ =
       let fixed = names-fixed source tokens good e in
       let not = sym answer ∙ whether in
       let a₀ = looked productions v tokens e fixed
-      (expression-begun 15 expression-cast expression-cast-begins beginsPart within level refl to₀)
+      (expression-begun 15 expression-cast expression-cast-begins begins within level refl to₀)
       (λ (j k : ℕ) (is : s₀ ≡ Read j k).
       cast-takes j (ap (λ (n : ℕ). eqb n star) (reached source tokens good e s₀ j k is) ∙ not)) refl in
       let a₁ = went productions v tokens e fixed (held productions v tokens e fixed a₀ (star-met false s₀ not)) d₁ in
@@ -526,8 +526,8 @@ module _ (source tokens : List ℕ) (good : Tokens tokens) (e : Names) where
       → Within tokens 1 s → n ≡ suc below → s₀ ≡ opened s → Part below 1 expression s₀ t s₁ t₁ → s₂ ≡ takenKind tokens leftBrace s₁
       → Part below 0 arms s₂ t₁ s₃ t₂ → s₄ ≡ takenKind tokens rightBrace s₃ → Under expression n below (givesRow matchRow) 4 [] s t s₄ t₂
   unfolding levels between and
-  match-expression beginsPart within level to₀ d₁ to₂ d₃ to₄ =
+  match-expression begins within level to₀ d₁ to₂ d₃ to₄ =
       let fixed = names-fixed source tokens good e in
-      let a₀ = expression-begun 16 expression-match expression-match-begins beginsPart within level refl to₀ in
+      let a₀ = expression-begun 16 expression-match expression-match-begins begins within level refl to₀ in
       let a₂ = took-mark source tokens good e leftBrace (went productions v tokens e fixed a₀ d₁) refl to₂ in
       took-mark source tokens good e rightBrace (went productions v tokens e fixed a₂ d₃) refl to₄

@@ -10,18 +10,18 @@ use Rattle.lexer.specs.Tests.{and, between}
 use Rattle.lexer.specs.internal.Kinds.{ident, at, percent, leftBrace, rightBrace, arrow}
 use Rattle.lexer.specs.Table.{tokenRoom}
 use Rattle.lexer.specs.internal.TokenRows.{rowsOf}
+use Rattle.tree.specs.internal.RowKinds.{traitRow, implRow, functionRow, headerRow}
 use Rattle.grammar.specs.Grammars.{Symbol, token, derived, Makes, givesRow, rowOf, givesKind, noRow, Names, View}
 use Rattle.grammar.specs.Rows.{levels}
 use Rattle.grammar.specs.Reading.{selected, choice}
-use Rattle.tree.specs.internal.RowKinds.{traitRow, implRow, functionRow, headerRow}
 use Rattle.grammar.specs.internal.Nonterminals.{declaration, interface, interfaceRest, methods, method, body, functions, function}
 use Rattle.grammar.specs.internal.Nonterminals.{parameters, typeParameters, block, type}
 use Rattle.grammar.specs.internal.Classes.{name}
 use Rattle.grammar.specs.Nurl.{productions}
-use Rattle.grammar.specs.internal.Productions.{ruleOf, kindToken as only}
 use Rattle.grammar.specs.Languages.{language17}
 use Rattle.grammar.specs.Sources.{viewOf}
 use Rattle.grammar.specs.internal.Alternatives.{kindOfClass, kindAlternative, nth}
+use Rattle.grammar.specs.internal.Productions.{ruleOf, kindToken as only}
 use Rattle.grammar.proofs.Laws.Checks.{below}
 use Rattle.grammar.proofs.Laws.Views.{classes}
 use Rattle.grammar.proofs.Laws.Alternatives17.{function-one, functions-more, functions-done, method-one, methods-more, methods-done}

@@ -8,8 +8,8 @@ use native.Mathlib.Omega.{arith}
 use native.Mathlib.Nat.{zero-add, suc-add}
 use lib.ListN.{length}
 use Rattle.lexer.specs.Tests.{pick, among}
-use Rattle.grammar.specs.Grammars.{Condition, Symbol, token, derived, condition, Makes, noRow, Production, Names, View, met}
 use Rattle.tree.specs.TreeTable.{Row}
+use Rattle.grammar.specs.Grammars.{Condition, Symbol, token, derived, condition, Makes, noRow, Production, Names, View, met}
 use Rattle.grammar.specs.Rows.{made, passed, firstSaid, levels}
 use Rattle.grammar.specs.Reading.{Outcome, ok, stuck, deep, spent, Choice, none, selected, choice, onward, descend, enter, joined}
 use Rattle.grammar.specs.Reading.{readWithin}

@@ -16,8 +16,8 @@ use Rattle.lexer.specs.Tests.{and, or, among}
 use Rattle.lexer.specs.internal.Kinds.{ident, boolean, keyword}
 use Rattle.lexer.specs.Table.{tokenRoom}
 use Rattle.lexer.specs.internal.TokenRows.{rowsOf, kindAt}
-use Rattle.lexer.proofs.Laws.Tests.{or-false, eqb-turn, and-left, and-right, or-else, or-right}
 use Rattle.lexer.specs.Items.{items}
+use Rattle.lexer.proofs.Laws.Tests.{or-false, eqb-turn, and-left, and-right, or-else, or-right}
 use Rattle.grammar.specs.Grammars.{endOfTokens}
 use Rattle.grammar.specs.Questions.{Piece, fits}
 use Rattle.grammar.specs.internal.Productions.{kindPiece}

@@ -10,18 +10,18 @@ use Rattle.lexer.specs.Tests.{and, between, pick}
 use Rattle.lexer.specs.internal.Kinds.{leftBracket, rightBracket}
 use Rattle.lexer.specs.Table.{tokenRoom}
 use Rattle.lexer.specs.internal.TokenRows.{rowsOf, kindAt}
+use Rattle.tree.specs.internal.RowKinds.{listRow}
 use Rattle.grammar.specs.Grammars.{Symbol, token, derived, condition, when, unless, query, givesRow, noRow, Names, View, asked, met}
 use Rattle.grammar.specs.Rows.{levels}
 use Rattle.grammar.specs.Reading.{Outcome, selected, descend, enter, readWithin}
-use Rattle.tree.specs.internal.RowKinds.{listRow}
 use Rattle.grammar.specs.internal.Nonterminals.{moreNames, moreWords, nameList, wordList, typeParameters, typeArguments, structParameters}
 use Rattle.grammar.specs.internal.Classes.{anyWord, declaredWord}
 use Rattle.grammar.specs.Questions.{answerTo}
 use Rattle.grammar.specs.Nurl.{productions, questions17}
-use Rattle.grammar.specs.internal.Productions.{ruleOf, opensNames, opensWords, opensStructNames, kindToken as only}
 use Rattle.grammar.specs.Languages.{language17, view}
 use Rattle.grammar.specs.Sources.{viewOf}
 use Rattle.grammar.specs.internal.Alternatives.{kindOfClass}
+use Rattle.grammar.specs.internal.Productions.{ruleOf, opensNames, opensWords, opensStructNames, kindToken as only}
 use Rattle.grammar.proofs.Laws.Checks.{below}
 use Rattle.grammar.proofs.Laws.Alternatives17.{nameList-one, wordList-one, typeParameters-some, typeParameters-none, typeArguments-some}
 use Rattle.grammar.proofs.Laws.Alternatives17.{typeArguments-none, structParameters-some, structParameters-none}

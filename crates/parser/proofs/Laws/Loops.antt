@@ -9,11 +9,11 @@ use Rattle.lexer.specs.Tests.{among}
 use Rattle.lexer.specs.Table.{tokenRoom}
 use Rattle.grammar.specs.Grammars.{Symbol, Production, Names, View}
 use Rattle.grammar.specs.internal.Alternatives.{kindAlternative}
-use Rattle.parser.specs.internal.Readings as readings
 use Rattle.parser.specs.internal.Readings.{Reads, read, refused6, refused7}
 use Rattle.parser.specs.internal.Steps.{nextKind, beginsPart, takenBy, wordKinds, takenWord}
 use Rattle.parser.specs.declared.Step.{Step}
 use Rattle.parser.specs.declared.Step.the-variants.{Read, Refused}
+use Rattle.parser.specs.internal.Readings as readings
 use Rattle.parser.proofs.Laws.Kinds.{word-kind, word-inside}
 use Rattle.parser.proofs.Laws.Readers.{begins-some}
 

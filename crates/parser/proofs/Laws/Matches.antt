@@ -8,16 +8,16 @@ use Rattle.lexer.specs.Tests.{and, or, between, among}
 use Rattle.lexer.specs.internal.Kinds.{ident, boolean, int, arrow}
 use Rattle.lexer.specs.Table.{tokenRoom}
 use Rattle.lexer.specs.internal.TokenRows.{rowsOf}
+use Rattle.tree.specs.internal.RowKinds.{armRow, payloadRow}
 use Rattle.grammar.specs.Grammars.{Symbol, token, derived, Makes, givesRow, noRow, Names, View}
 use Rattle.grammar.specs.Rows.{levels}
 use Rattle.grammar.specs.Reading.{selected}
-use Rattle.tree.specs.internal.RowKinds.{armRow, payloadRow}
 use Rattle.grammar.specs.internal.Nonterminals.{expression, arms, arm, payloads3, payloads2, payloads1, payload}
 use Rattle.grammar.specs.internal.Classes.{armHead, payloadToken}
 use Rattle.grammar.specs.Nurl.{productions}
-use Rattle.grammar.specs.internal.Productions.{ruleOf, kindToken as only}
 use Rattle.grammar.specs.Languages.{language17}
 use Rattle.grammar.specs.Sources.{viewOf}
+use Rattle.grammar.specs.internal.Productions.{ruleOf, kindToken as only}
 use Rattle.grammar.proofs.Laws.Checks.{below, implies}
 use Rattle.grammar.proofs.Laws.Alternatives17.{arms-more, arms-done, arm-one, payload-one, payloads3-more, payloads3-done, payloads2-more}
 use Rattle.grammar.proofs.Laws.Alternatives17.{payloads2-done, payloads1-more, payloads1-done}

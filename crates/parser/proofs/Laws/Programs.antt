@@ -8,10 +8,10 @@ use lib.Dec.{eqb}
 use Rattle.lexer.specs.Tests.{and, or, among}
 use Rattle.lexer.specs.Table.{tokenRoom}
 use Rattle.lexer.specs.internal.TokenRows.{rowsOf}
+use Rattle.tree.specs.internal.RowKinds.{programRow}
 use Rattle.grammar.specs.Grammars.{endOfTokens, next, Symbol, derived, givesRow, Names, View, agrees, asked, met}
 use Rattle.grammar.specs.Rows.{levels}
 use Rattle.grammar.specs.Reading.{whole}
-use Rattle.tree.specs.internal.RowKinds.{programRow}
 use Rattle.grammar.specs.internal.Nonterminals.{program, declarations}
 use Rattle.grammar.specs.Nurl.{productions}
 use Rattle.grammar.specs.internal.Productions.{ruleOf}

@@ -14,8 +14,8 @@ use Rattle.lexer.specs.Spellings.{same}
 use Rattle.lexer.specs.internal.Kinds.{ident, keyword, int, leftBrace, leftBracket, rightBracket, leftParen, at, arrow, star, question}
 use Rattle.lexer.specs.internal.Kinds.{bang}
 use Rattle.lexer.specs.internal.TokenRows.{rowsOf, kindAt, itemAt}
-use Rattle.lexer.proofs.Laws.Tests.{and-true, or-false, eqb-turn}
 use Rattle.lexer.specs.Items.{itemOf, items}
+use Rattle.lexer.proofs.Laws.Tests.{and-true, or-false, eqb-turn}
 use Rattle.typenames.specs.TypeNames.{isNamed}
 use Rattle.grammar.specs.Grammars.{endOfTokens, Condition, query, Names, asked}
 use Rattle.grammar.specs.Classes.{typeName}

@@ -142,11 +142,11 @@ within-word tokens keywords to within =
 pub opened-within : {a : ℕ} {s s' : Step} (x : ℕ) → kindAlternative x 0 ≡ 0 → (tokens : List ℕ)
     → kindAlternative x (nextKind tokens s) ≡ suc a → Within tokens 1 s → s' ≡ opened s → Within tokens 0 s'
 unfolding nextKind opened
-opened-within {a} x ends tokens beginsPart (inside {at = i} {row = r} few to) is =
+opened-within {a} x ends tokens begins (inside {at = i} {row = r} few to) is =
     let room = kind-inside tokens i (kindAt tokens i) refl (pos-of-ne-zero (λ (z : kindAt tokens i ≡ 0).
     let gone : kindAlternative x (kindAt tokens i) ≡ 0 = ap (kindAlternative x) z ∙ ends in absurd (omega arith))) in
     rw is (inside {at = i + 1} {row = r + 1} (omega arith) (omega arith))
-opened-within x ends tokens beginsPart elsewhere is = rw is elsewhere
+opened-within x ends tokens begins elsewhere is = rw is elsewhere
 
 -- whether a production that makes a row is chosen
 unfoldable pub rowed : Choice → Bool
@@ -304,9 +304,9 @@ module _ (source tokens : List ℕ) (good : Tokens tokens) (e : Names) where
       → ((j : ℕ) → kindOfClass (class j) ≡ kind → choice productions v e x j ≡ selected (ruleOf x m (token (kind ∷ []) ∷ ss)))
       → nextKind tokens s ≡ kind → Within tokens 1 s → n ≡ suc below → levels m ≡ 1 → s₀ ≡ opened s
       → After productions v (tokenRoom tokens) e n below m 1 0 (derived x ∷ []) ss s t s₀ t
-  begun-mark kind is chosen beginsPart =
+  begun-mark kind is chosen begins =
       begun-by (λ (k : ℕ). eqb k kind) (mark-opens kind is)
-      (λ (j : ℕ) (h : eqb (kindOfClass (class j)) kind ≡ true). chosen j (eqb-true _ _ h)) (eq-eqb _ _ beginsPart)
+      (λ (j : ℕ) (h : eqb (kindOfClass (class j)) kind ≡ true). chosen j (eqb-true _ _ h)) (eq-eqb _ _ begins)
 
   -- .. by the number of its alternative
   pub begun-at : {n below x number : ℕ} {m : Makes} {cs : List ℕ} {ss : List Symbol} {s s₀ : Step} {t : List ℕ}
@@ -314,11 +314,11 @@ module _ (source tokens : List ℕ) (good : Tokens tokens) (e : Names) where
       → nth x number productions ≡ selected (ruleOf x m (token cs ∷ ss)) → opensWith (λ (k : ℕ). eqb (kindAlternative x k) number) cs ≡ true
       → kindAlternative x (nextKind tokens s) ≡ number → Within tokens 1 s → n ≡ suc below → levels m ≡ 1 → s₀ ≡ opened s
       → After productions v (tokenRoom tokens) e n below m 1 0 (derived x ∷ []) ss s t s₀ t
-  begun-at {x = x} {number = number} chosen is opens beginsPart within level makes to =
+  begun-at {x = x} {number = number} chosen is opens begins within level makes to =
       begun-by (λ (k : ℕ). eqb (kindAlternative x k) number) opens
       (λ (j : ℕ) (h : eqb (kindAlternative x (kindOfClass (class j))) number ≡ true).
       chosen j ∙ ap (λ (n : ℕ). nth x n productions) (eqb-true _ _ h) ∙ is)
-      (eq-eqb _ _ beginsPart) within level makes to
+      (eq-eqb _ _ begins) within level makes to
 
   -- the classes of a kind
   pub class-marks : (kind : ℕ) (cs : List ℕ) → marks cs kind ≡ true → (j : ℕ) → among cs (class j) ≡ eqb (kindOfClass (class j)) kind
@@ -387,8 +387,8 @@ module _ (source tokens : List ℕ) (good : Tokens tokens) (e : Names) where
       → kindAlternative x (nextKind tokens s) ≡ number → Within tokens 1 s
       → Reads productions v (tokenRoom tokens) e n 1 0 (derived y ∷ []) s t s' t'
       → Reads productions v (tokenRoom tokens) e n 1 0 (derived x ∷ []) s t s' t'
-  passes-on {y = y} x {s = s} chosen is beginsPart within d =
+  passes-on {y = y} x {s = s} chosen is begins within d =
       let fixed = names-fixed source tokens good e in
       let a = looked-by (ruleOf x noRow (derived y ∷ [])) (start productions v tokens e fixed within)
-      (λ j k. alternative-is x chosen s beginsPart j k ∙ is) refl in
+      (λ j k. alternative-is x chosen s begins j k ∙ is) refl in
       done productions v tokens e fixed (went productions v tokens e fixed a d)

@@ -11,28 +11,28 @@ use Rattle.lexer.specs.internal.Kinds.{ident, dot, tilde, leftBrace, rightBrace
 use Rattle.lexer.specs.Table.{tokenRoom}
 use Rattle.lexer.specs.internal.TokenRows.{rowsOf, kindAt}
 use Rattle.lexer.proofs.Laws.Tests.{and-left}
+use Rattle.tree.specs.internal.RowKinds.{blockRow, letRow, setNameRow, setElementRow, deferRow, whileRow, foreachRow, complementRow}
 use Rattle.grammar.specs.Grammars.{query, Symbol, token, derived, unless, Makes, givesRow, rowOf, givesKind, noRow, Names, View, asked}
 use Rattle.grammar.specs.Grammars.{met}
 use Rattle.grammar.specs.Rows.{levels}
 use Rattle.grammar.specs.Reading.{selected, choice}
-use Rattle.tree.specs.internal.RowKinds.{blockRow, letRow, setNameRow, setElementRow, deferRow, whileRow, foreachRow, complementRow}
 use Rattle.grammar.specs.internal.Nonterminals.{block, statements, statement, binding, assignment, tildeStatement, loopOrComplement}
 use Rattle.grammar.specs.internal.Nonterminals.{expression, type}
 use Rattle.grammar.specs.internal.Classes.{name}
 use Rattle.grammar.specs.Nurl.{productions, plainName}
-use Rattle.grammar.specs.internal.Productions.{ruleOf, aTilde, aBrace, twoNames, kindToken as only}
 use Rattle.grammar.specs.Languages.{language17}
 use Rattle.grammar.specs.Sources.{viewOf}
 use Rattle.grammar.specs.internal.Alternatives.{kindOfClass, kindAlternative, nth}
+use Rattle.grammar.specs.internal.Productions.{ruleOf, aTilde, aBrace, twoNames, kindToken as only}
 use Rattle.grammar.proofs.Laws.Checks.{below, implies}
 use Rattle.grammar.proofs.Laws.Views.{classes}
 use Rattle.grammar.proofs.Laws.Groups17.{kindNumber, kind-same}
-use Rattle.grammar.proofs.Laws.Alternatives17 as alternatives
 use Rattle.grammar.proofs.Laws.Alternatives17.{expression-at, statement-at, statement-let, statement-assignment, statement-defer}
 use Rattle.grammar.proofs.Laws.Alternatives17.{statement-tilde, block-one, block-none, statements-more, statements-done, mutable-some}
 use Rattle.grammar.proofs.Laws.Alternatives17.{mutable-none, binding-named, binding-typed, binding-none, assignment-setName}
 use Rattle.grammar.proofs.Laws.Alternatives17.{assignment-setElement, assignment-none, tildeStatement-foreach, tildeStatement-other}
 use Rattle.grammar.proofs.Laws.Alternatives17.{tildeStatement-none, loopOrComplement-some, loopOrComplement-none}
+use Rattle.grammar.proofs.Laws.Alternatives17 as alternatives
 use Rattle.parser.specs.internal.Readings.{Reads}
 use Rattle.parser.specs.internal.Steps.{Tokens, Within, nextKind, beginsPart, kindsAt, askedAt, refusedAt, takenKind, takenIf}
 use Rattle.parser.specs.internal.Steps.{opened}
@@ -156,13 +156,13 @@ module _ (source tokens : List ℕ) (good : Tokens tokens) (e : Names) where
   pub statement-expression : {n : ℕ} {s s' : Step} {t t' : List ℕ} → kindAlternative statement (nextKind tokens s) ≡ 1
       → Within tokens 1 s → Part n 1 expression s t s' t'
       → Part n 1 statement s t s' t'
-  statement-expression {s = s} beginsPart within d =
+  statement-expression {s = s} begins within d =
       let fixed = names-fixed source tokens good e in
       let a = looked-by source tokens good e (ruleOf statement noRow (unless aTilde ∷ derived expression ∷ []))
       (start productions v tokens e fixed within)
-      (λ j k. alternative-is source tokens good e statement statement-choice s beginsPart j k ∙ alternatives.statement-expression) refl in
+      (λ j k. alternative-is source tokens good e statement statement-choice s begins j k ∙ alternatives.statement-expression) refl in
       let b = held productions v tokens e fixed a (λ (j k : ℕ) (is : s ≡ Read j k).
-      no-tilde j (ap (kindAlternative statement) (reached source tokens good e s j k is) ∙ beginsPart)
+      no-tilde j (ap (kindAlternative statement) (reached source tokens good e s j k is) ∙ begins)
       (eqb (kindOfClass (v .class e j)) tilde) refl) in
       done productions v tokens e fixed (went productions v tokens e fixed b d)
 
@@ -178,11 +178,11 @@ module _ (source tokens : List ℕ) (good : Tokens tokens) (e : Names) where
       → Within tokens 1 s → n ≡ suc below → s₀ ≡ opened s → s₁ ≡ takenIf tokens tilde s₀
       → Under statement n below (givesRow letRow) 1 (derived binding ∷ []) s t s₁ t
   unfolding levels between and
-  let-begun beginsPart within level to₀ to₁ =
+  let-begun begins within level to₀ to₁ =
       took-if source tokens good e tilde (mark-marks tilde refl)
       (λ (j : ℕ). mutable-some v e j (class-low source tokens good e j))
       (λ (j : ℕ). mutable-none v e j (class-low source tokens good e j))
-      (statement-begun 2 statement-let statement-let-begins beginsPart within level refl to₀) to₁
+      (statement-begun 2 statement-let statement-let-begins begins within level refl to₀) to₁
 
   -- `:` `~`? IDENT expression
   pub let-plain : {n below : ℕ} {s s₀ s₁ s₂ s₃ : Step} {t t₃ : List ℕ} → kindAlternative statement (nextKind tokens s) ≡ 2
@@ -190,9 +190,9 @@ module _ (source tokens : List ℕ) (good : Tokens tokens) (e : Names) where
       → askedAt plainName source tokens e s₁ ≡ true → s₂ ≡ takenKind tokens ident s₁
       → Part below 1 expression s₂ t s₃ t₃
       → Under statement n below (givesRow letRow) 3 [] s t s₃ t₃
-  let-plain {s₁ = s₁} beginsPart within level to₀ to₁ is to₂ d₃ =
+  let-plain {s₁ = s₁} begins within level to₀ to₁ is to₂ d₃ =
       let fixed = names-fixed source tokens good e in
-      let a = looked productions v tokens e fixed (let-begun beginsPart within level to₀ to₁)
+      let a = looked productions v tokens e fixed (let-begun begins within level to₀ to₁)
       (λ (j k : ℕ) (at : s₁ ≡ Read j k).
       takes (binding-named v e j (class-low source tokens good e j) (plain-class source tokens e true s₁ is j k at))) refl in
       let b = held productions v tokens e fixed a (met-here source tokens e plainName s₁ true is) in
@@ -220,9 +220,9 @@ module _ (source tokens : List ℕ) (good : Tokens tokens) (e : Names) where
       → Part below 1 type s₁ t s₂ t₂ → s₃ ≡ takenKind tokens ident s₂
       → Part below 1 expression s₃ t₂ s₄ t₄
       → Under statement n below (givesRow letRow) 4 [] s t s₄ t₄
-  let-typed {s₁ = s₁} beginsPart within level to₀ to₁ not d₂ to₃ d₄ =
+  let-typed {s₁ = s₁} begins within level to₀ to₁ not d₂ to₃ d₄ =
       let fixed = names-fixed source tokens good e in
-      let a = looked productions v tokens e fixed (let-begun beginsPart within level to₀ to₁) (typed-takes s₁ not) refl in
+      let a = looked productions v tokens e fixed (let-begun begins within level to₀ to₁) (typed-takes s₁ not) refl in
       let b = held productions v tokens e fixed a (met-here source tokens e plainName s₁ false not) in
       let c = took-name source tokens good e (went productions v tokens e fixed b d₂) to₃ in
       went productions v tokens e fixed c d₄
@@ -235,9 +235,9 @@ module _ (source tokens : List ℕ) (good : Tokens tokens) (e : Names) where
       → Part below 1 expression s₃ t₃ s₄ t₄
       → Under statement n below (givesRow setElementRow) 5 [] s t s₄ t₄
   unfolding levels between and
-  set-element {s₀ = s₀} beginsPart within level to₀ is to₁ d₂ d₃ d₄ =
+  set-element {s₀ = s₀} begins within level to₀ is to₁ d₂ d₃ d₄ =
       let fixed = names-fixed source tokens good e in
-      let a₀ = statement-begun 3 statement-assignment statement-assignment-begins beginsPart within level refl to₀ in
+      let a₀ = statement-begun 3 statement-assignment statement-assignment-begins begins within level refl to₀ in
       let said = spoken-by source tokens good e
       (ruleOf assignment (givesKind setElementRow) (only dot ∷ derived expression ∷ derived expression ∷ derived expression ∷ [])) a₀
       (λ j k. assignment-setElement v e j (class-low source tokens good e j) (k ∙ eqb-true (nextKind tokens s₀) dot is)) refl in
@@ -265,9 +265,9 @@ module _ (source tokens : List ℕ) (good : Tokens tokens) (e : Names) where
       → Part below 1 expression s₁ t s₂ t₂
       → Under statement n below (givesRow setNameRow) 3 [] s t s₂ t₂
   unfolding levels
-  set-name {s₀ = s₀} beginsPart within level to₀ not to₁ d₂ =
+  set-name {s₀ = s₀} begins within level to₀ not to₁ d₂ =
       let fixed = names-fixed source tokens good e in
-      let a₀ = statement-begun 3 statement-assignment statement-assignment-begins beginsPart within level refl to₀ in
+      let a₀ = statement-begun 3 statement-assignment statement-assignment-begins begins within level refl to₀ in
       let said = spoken productions v tokens e fixed a₀
       (λ (j k : ℕ) (is : s₀ ≡ Read j k). name-takes s₀ not j (reached source tokens good e s₀ j k is)) refl in
       went productions v tokens e fixed (took-name source tokens good e said to₁) d₂
@@ -278,9 +278,9 @@ module _ (source tokens : List ℕ) (good : Tokens tokens) (e : Names) where
       → Part below 1 block s₀ t s₁ t₁
       → Under statement n below (givesRow deferRow) 2 [] s t s₁ t₁
   unfolding levels
-  defer-block beginsPart within level to₀ d₁ =
+  defer-block begins within level to₀ d₁ =
       went productions v tokens e (names-fixed source tokens good e)
-      (statement-begun 4 statement-defer statement-defer-begins beginsPart within level refl to₀) d₁
+      (statement-begun 4 statement-defer statement-defer-begins begins within level refl to₀) d₁
 
   -- of two names the next token is one
   two-first : (s : Step) → askedAt (query twoNames) source tokens e s ≡ true → (j k : ℕ) → s ≡ Read j k → kindOfClass (v .class e j) ≡ ident
@@ -297,9 +297,9 @@ module _ (source tokens : List ℕ) (good : Tokens tokens) (e : Names) where
       → Part below 1 block s₂ t₂ s₃ t₃
       → Under statement n below (givesRow foreachRow) 4 [] s t s₃ t₃
   unfolding levels asked
-  for-each {s₀ = s₀} beginsPart within level to₀ is to₁ d₂ d₃ =
+  for-each {s₀ = s₀} begins within level to₀ is to₁ d₂ d₃ =
       let fixed = names-fixed source tokens good e in
-      let a₀ = statement-begun 5 statement-tilde statement-tilde-begins beginsPart within level refl to₀ in
+      let a₀ = statement-begun 5 statement-tilde statement-tilde-begins begins within level refl to₀ in
       let said = spoken productions v tokens e fixed a₀ (λ (j k : ℕ) (at : s₀ ≡ Read j k).
       takes (tildeStatement-foreach v e j (class-low source tokens good e j)
       (asked-here source tokens e (query twoNames) s₀ true is j k at) (two-first s₀ is j k at))) refl in
@@ -333,9 +333,9 @@ module _ (source tokens : List ℕ) (good : Tokens tokens) (e : Names) where
       → Part below 1 expression s₀ t s₁ t₁
       → Under statement n below rowOf 2 (derived loopOrComplement ∷ []) s t s₁ t₁
   unfolding levels
-  tilde-begun {s₀ = s₀} beginsPart within level to₀ not d₁ =
+  tilde-begun {s₀ = s₀} begins within level to₀ not d₁ =
       let fixed = names-fixed source tokens good e in
-      let a₀ = statement-begun 5 statement-tilde statement-tilde-begins beginsPart within level refl to₀ in
+      let a₀ = statement-begun 5 statement-tilde statement-tilde-begins begins within level refl to₀ in
       let a = looked productions v tokens e fixed a₀ (other-takes s₀ not) refl in
       went productions v tokens e fixed
       (held productions v tokens e fixed a (met-here source tokens e (query twoNames) s₀ false not)) d₁
@@ -347,9 +347,9 @@ module _ (source tokens : List ℕ) (good : Tokens tokens) (e : Names) where
       → eqb (nextKind tokens s₁) leftBrace ≡ true
       → Part below 1 block s₁ t₁ s₂ t₂
       → Under statement n below (givesRow whileRow) 3 [] s t s₂ t₂
-  while-loop {s₁ = s₁} beginsPart within level to₀ not d₁ is d₂ =
+  while-loop {s₁ = s₁} begins within level to₀ not d₁ is d₂ =
       let said = spoken-by source tokens good e (ruleOf loopOrComplement (givesKind whileRow) (derived block ∷ []))
-      (tilde-begun beginsPart within level to₀ not d₁)
+      (tilde-begun begins within level to₀ not d₁)
       (λ j k. loopOrComplement-some v e j (class-low source tokens good e j) (ap (λ (n : ℕ). eqb n leftBrace) k ∙ is)) refl in
       went productions v tokens e (names-fixed source tokens good e) said d₂
 
@@ -360,9 +360,9 @@ module _ (source tokens : List ℕ) (good : Tokens tokens) (e : Names) where
       → eqb (nextKind tokens s₁) leftBrace ≡ false
       → Under statement n below (givesRow complementRow) 2 [] s t s₁ t₁
   unfolding between and
-  tilde-complement {s₁ = s₁} beginsPart within level to₀ not d₁ unbraced =
+  tilde-complement {s₁ = s₁} begins within level to₀ not d₁ unbraced =
       let said = spoken-by source tokens good e (ruleOf loopOrComplement (givesKind complementRow) (unless aBrace ∷ []))
-      (tilde-begun beginsPart within level to₀ not d₁)
+      (tilde-begun begins within level to₀ not d₁)
       (λ j k. loopOrComplement-none v e j (class-low source tokens good e j) (ap (λ (n : ℕ). eqb n leftBrace) k ∙ unbraced)) refl in
       held productions v tokens e (names-fixed source tokens good e) said (λ (j k : ℕ) (is : s₁ ≡ Read j k).
       mark-met source tokens good e leftBrace false j refl

@@ -12,17 +12,17 @@ use Rattle.lexer.specs.Tests.{and, between}
 use Rattle.lexer.specs.internal.Kinds.{ident, at, rightParen}
 use Rattle.lexer.specs.Table.{tokenRoom}
 use Rattle.lexer.specs.internal.TokenRows.{rowsOf}
+use Rattle.tree.specs.internal.RowKinds.{baseTypeRow, functionTypeRow, instanceRow, namedTypeRow}
 use Rattle.grammar.specs.Grammars.{Symbol, token, derived, Makes, givesRow, givesKind, noRow, Names, View}
 use Rattle.grammar.specs.Rows.{levels}
 use Rattle.grammar.specs.Reading.{none, selected, choice}
-use Rattle.tree.specs.internal.RowKinds.{baseTypeRow, functionTypeRow, instanceRow, namedTypeRow}
 use Rattle.grammar.specs.internal.Nonterminals.{type, types, parenthesized, moreWords}
 use Rattle.grammar.specs.internal.Classes.{name, anyWord}
 use Rattle.grammar.specs.Nurl.{productions}
-use Rattle.grammar.specs.internal.Productions.{ruleOf, kindToken as only}
 use Rattle.grammar.specs.Languages.{language17}
 use Rattle.grammar.specs.Sources.{viewOf}
 use Rattle.grammar.specs.internal.Alternatives.{kindOfClass, kindAlternative, nth}
+use Rattle.grammar.specs.internal.Productions.{ruleOf, kindToken as only}
 use Rattle.grammar.proofs.Laws.Checks.{below, implies}
 use Rattle.grammar.proofs.Laws.Views.{classes}
 use Rattle.grammar.proofs.Laws.Groups17.{kindNumber}
@@ -86,10 +86,10 @@ module _ (source tokens : List ℕ) (good : Tokens tokens) (e : Names) where
       → kindAlternative type (nextKind tokens s) ≡ a → Within tokens 1 s → n ≡ suc below → s₀ ≡ opened s
       → Under type n below (givesRow kind) 1 (replicate count (derived type)) s t s₀ t
   unfolding levels
-  type-operator pointer beginsPart within level = type-begun 2 type-pointer type-pointer-begins beginsPart within level refl
-  type-operator optional beginsPart within level = type-begun 3 type-optional type-optional-begins beginsPart within level refl
-  type-operator slice beginsPart within level = type-begun 4 type-slice type-slice-begins beginsPart within level refl
-  type-operator result beginsPart within level = type-begun 5 type-result type-result-begins beginsPart within level refl
+  type-operator pointer begins within level = type-begun 2 type-pointer type-pointer-begins begins within level refl
+  type-operator optional begins within level = type-begun 3 type-optional type-optional-begins begins within level refl
+  type-operator slice begins within level = type-begun 4 type-slice type-slice-begins begins within level refl
+  type-operator result begins within level = type-begun 5 type-result type-result-begins begins within level refl
 
   -- a type of one token
   type-leaf : {n below kind : ℕ} (number : ℕ) {cs : List ℕ} {s r : Step} {t after : List ℕ}
@@ -98,8 +98,8 @@ module _ (source tokens : List ℕ) (good : Tokens tokens) (e : Names) where
       → r ≡ opened s → after ≡ closed kind s (opened s) t
       → Part n 1 type s t r after
   unfolding levels
-  type-leaf number is opens beginsPart within level answer table =
-      closed-by productions v tokens e (names-fixed source tokens good e) (type-begun number is opens beginsPart within level refl refl)
+  type-leaf number is opens begins within level answer table =
+      closed-by productions v tokens e (names-fixed source tokens good e) (type-begun number is opens begins within level refl refl)
       (omega arith) answer table
 
   pub base-type : {n below : ℕ} {s r : Step} {t after : List ℕ} → kindAlternative type (nextKind tokens s) ≡ 1 → Within tokens 1 s
@@ -119,9 +119,9 @@ module _ (source tokens : List ℕ) (good : Tokens tokens) (e : Names) where
       → Part below 0 types s₂ t₁ s₃ t₂ → s₄ ≡ takenKind tokens rightParen s₃
       → Under type n below (givesRow functionTypeRow) 4 [] s t s₄ t₂
   unfolding levels between and
-  function-type {s₀ = s₀} beginsPart within level to₀ is to₁ d₂ d₃ to₄ =
+  function-type {s₀ = s₀} begins within level to₀ is to₁ d₂ d₃ to₄ =
       let fixed = names-fixed source tokens good e in
-      let a₀ = type-begun 6 type-parenthesized type-parenthesized-begins beginsPart within level refl to₀ in
+      let a₀ = type-begun 6 type-parenthesized type-parenthesized-begins begins within level refl to₀ in
       let said = spoken-by source tokens good e
       (ruleOf parenthesized (givesKind functionTypeRow) (only at ∷ derived type ∷ derived types ∷ only rightParen ∷ [])) a₀
       (λ j k. parenthesized-functionType v e j (class-low source tokens good e j) (k ∙ eqb-true (nextKind tokens s₀) at is)) refl in
@@ -151,9 +151,9 @@ module _ (source tokens : List ℕ) (good : Tokens tokens) (e : Names) where
       → s₂ ≡ takenWord tokens true s₁ → Part below 0 moreWords s₂ t s₃ t
       → s₄ ≡ takenKind tokens rightParen s₃ → Under type n below (givesRow instanceRow) 4 [] s t s₄ t
   unfolding levels between and
-  instance {s₀ = s₀} beginsPart within level to₀ not to₁ to₂ d₃ to₄ =
+  instance {s₀ = s₀} begins within level to₀ not to₁ to₂ d₃ to₄ =
       let fixed = names-fixed source tokens good e in
-      let a₀ = type-begun 6 type-parenthesized type-parenthesized-begins beginsPart within level refl to₀ in
+      let a₀ = type-begun 6 type-parenthesized type-parenthesized-begins begins within level refl to₀ in
       let said = spoken productions v tokens e fixed a₀
       (λ (j k : ℕ) (is : s₀ ≡ Read j k). instance-takes s₀ not j (reached source tokens good e s₀ j k is)) refl in
       let a₂ = took-word source tokens good e true (took-name source tokens good e said to₁) to₂ in

@@ -13,9 +13,9 @@ use Rattle.lexer.specs.internal.Kinds.{ident, lastKind}
 use Rattle.lexer.specs.Tokens.{Token}
 use Rattle.lexer.specs.Table.{tokenRoom}
 use Rattle.lexer.specs.internal.TokenRows.{rowsOf, noToken, rowAt, kindAt, itemAt}
+use Rattle.lexer.specs.Items.{itemOf, items}
 use Rattle.lexer.proofs.Laws.Tests.{between-range}
 use Rattle.lexer.proofs.Laws.Rows.{no-row}
-use Rattle.lexer.specs.Items.{itemOf, items}
 use Rattle.typenames.specs.TypeNames.{isNamed}
 use Rattle.grammar.specs.Grammars.{Names}
 use Rattle.grammar.specs.Classes.{typeName}

@@ -10,13 +10,13 @@ use lib.ListN.{length, take, drop, set, length-append, length-drop, length-set, 
 use lib.Seq.{sets, set-append-left, length-take-le, drop-at}
 use borrow.Author.Tests.{ltb-true}
 use Rattle.lexer.specs.Tests.{pick}
-use Rattle.grammar.specs.Grammars.{Symbol, Production, Names, View}
 use Rattle.tree.specs.TreeTable.{Row, treeWidth, treeRoom, treeRow, cleared}
 use Rattle.tree.specs.internal.Trees.{putRow, put}
+use Rattle.tree.proofs.Laws.Trees.{length-putRow, length-put}
+use Rattle.grammar.specs.Grammars.{Symbol, Production, Names, View}
 use Rattle.parser.specs.internal.Readings.{Reads, read, refused6, refused7, refusedBefore}
 use Rattle.parser.specs.declared.Step.{Step}
 use Rattle.parser.specs.declared.Step.the-variants.{Read, Refused}
-use Rattle.tree.proofs.Laws.Trees.{length-putRow, length-put}
 
 -- numbers written inside the front of a table leave what follows it
 sets-front : (front rest : List ℕ) (i : ℕ) (vs : List ℕ) → i + length vs ≤ length front → sets (front ++ rest) i vs ≡ sets front i vs ++ rest

@@ -3,21 +3,21 @@ use Prim.Native.Nat.{ℕ, _+_, _*_, _≤_}
 use mathlib.Core.Path.{_≡_}
 use mathlib.Core.List.{List, [], _∷_}
 use lib.ListN.{length}
-use Rattle.lexer.specs.Refusals.{refusal}
+use Rattle.lexer.specs.Refusals.{refusalNumber}
 use Rattle.lexer.specs.Table.{tokenRoom}
 use Rattle.lexer.specs.internal.TokenRows.{rowsOf}
 use Rattle.lexer.specs.Items.{items}
 use Rattle.typenames.specs.internal.Scopes.{inForce}
 use Rattle.typenames.specs.internal.Prepared.{preparedNames}
 use Rattle.typenames.specs.declared.Scope.{Scope}
-use Rattle.grammar.specs.Grammars.{Symbol, derived, Production, Names, View}
 use Rattle.tree.specs.TreeTable.{Row}
+use Rattle.tree.specs.internal.Trees.{put}
+use Rattle.grammar.specs.Grammars.{Symbol, derived, Production, Names, View}
 use Rattle.grammar.specs.Reading.{Outcome, ok, stuck, deep, readWithin, whole}
 use Rattle.grammar.specs.internal.Nonterminals.{program}
 use Rattle.grammar.specs.Nurl.{productions}
 use Rattle.grammar.specs.Languages.{language17}
 use Rattle.grammar.specs.Sources.{viewOf}
-use Rattle.tree.specs.internal.Trees.{put}
 use Rattle.parser.specs.declared.Step.{Step}
 use Rattle.parser.specs.declared.Step.the-variants.{Read, Refused}
 
@@ -36,10 +36,10 @@ pub data Reads (g : List Production) (v : View) (count : ℕ) (e : Names) (n lea
       → Reads g v count e n least more ss (Read i r) table (Read j k) after
   -- a token that the reading cannot take
   refused6 : {i r place : ℕ} {table after : List ℕ} → Gives g v e n ss i (stuck place) → length after ≡ length table
-      → Reads g v count e n least more ss (Read i r) table (Refused (refusal "no program") place) after
+      → Reads g v count e n least more ss (Read i r) table (Refused (refusalNumber "no program") place) after
   -- a token where the reading is too deep
   refused7 : {i r place : ℕ} {table after : List ℕ} → Gives g v e n ss i (deep place) → length after ≡ length table
-      → Reads g v count e n least more ss (Read i r) table (Refused (refusal "too deep") place) after
+      → Reads g v count e n least more ss (Read i r) table (Refused (refusalNumber "too deep") place) after
   -- an earlier refusal
   refusedBefore : {number place : ℕ} {table after : List ℕ} → length after ≡ length table
       → Reads g v count e n least more ss (Refused number place) table (Refused number place) after

@@ -5,12 +5,13 @@ use mathlib.Core.Bool.{Bool, true, false}
 use mathlib.Core.List.{List, [], _∷_}
 use lib.Dec.{eqb, ltb}
 use lib.ListN.{drop}
-use Rattle.lexer.specs.Refusals.{refusal}
+use Rattle.lexer.specs.Refusals.{refusalNumber}
 use Rattle.lexer.specs.Tests.{and, between, pick, among}
 use Rattle.lexer.specs.internal.Kinds.{ident, keyword, boolean, firstKind, lastKind}
 use Rattle.lexer.specs.Table.{sourceLimit, tokenRoom}
 use Rattle.lexer.specs.internal.TokenRows.{rowsOf, kindAt}
 use Rattle.lexer.specs.Items.{items}
+use Rattle.tree.specs.internal.Trees.{putRow}
 use Rattle.grammar.specs.Grammars.{endOfTokens, Condition, Names, asked}
 use Rattle.grammar.specs.internal.Nonterminals.{type}
 use Rattle.grammar.specs.Questions.{runOf}
@@ -18,7 +19,6 @@ use Rattle.grammar.specs.Nurl.{plainName}
 use Rattle.grammar.specs.Languages.{language17}
 use Rattle.grammar.specs.Sources.{viewOf}
 use Rattle.grammar.specs.internal.Alternatives.{kindAlternative}
-use Rattle.tree.specs.internal.Trees.{putRow}
 use Rattle.parser.specs.declared.Step.{Step}
 use Rattle.parser.specs.declared.Step.the-variants.{Read, Refused}
 
@@ -84,7 +84,7 @@ refusedAt number (Refused earlier place) = Refused earlier place
 
 -- the next token taken, if it passes a test
 unfoldable pub takenBy : (ℕ → Bool) → Step → Step
-takenBy test (Read at row) = pick (test at) (Read (at + 1) row) (Refused (refusal "no program") at)
+takenBy test (Read at row) = pick (test at) (Read (at + 1) row) (Refused (refusalNumber "no program") at)
 takenBy test (Refused number place) = Refused number place
 
 -- .. if it is of this kind

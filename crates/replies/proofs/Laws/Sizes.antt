@@ -14,17 +14,17 @@ use Rattle.lexer.specs.Text.{bytes}
 use Rattle.lexer.specs.Table.{tokenRoom}
 use Rattle.tree.specs.TreeTable.{Row, treeWidth, treeRoom, treeRows, placed, columnAt, treeRowAt}
 use Rattle.tree.specs.internal.RowKinds.{namedTypeRow}
+use Rattle.tree.proofs.Laws.Trees.{length-treeRows}
 use Rattle.grammar.specs.Forests.{Forest, nothing, tree}
 use Rattle.grammar.specs.Languages.{language17}
+use Rattle.grammar.proofs.Laws.KnownKinds.{KindsTo, none, each}
+use Rattle.grammar.proofs.Laws.Nurl17.{theorems17}
 use Rattle.answer.specs.Answers.{levelLimit, Result, answer17}
 use Rattle.answer.specs.Demands.{Refusal, too-long, bad-names, bad-byte, open-string, few-token-rows, no-program, too-deep, few-tree-rows}
 use Rattle.answer.specs.Demands.{Demands}
 use Rattle.answer.specs.declared.Answer.{Answer}
 use Rattle.answer.specs.declared.Answer.the-variants.{Accepted, Refused}
-use Rattle.grammar.proofs.Laws.KnownKinds.{KindsTo, none, each}
-use Rattle.grammar.proofs.Laws.Nurl17.{theorems17}
 use Rattle.answer.proofs.Theorem.{answer-meets}
-use Rattle.tree.proofs.Laws.Trees.{length-treeRows}
 use Rattle.nurl.specs.Texts.{decimal, numberText, rowLine, rowLines, answerText, written, bytesWritten, overwritten}
 use Rattle.nurl.proofs.Laws.Texts.{overwritten-length, digits-of-ten, digits-of-more}
 use Rattle.nurl.proofs.Laws.Numbers.{refused-small}

@@ -16,9 +16,9 @@ use Rattle.lexer.specs.internal.Kinds.{ident, colon, bar, leftBrace, rightBrace
 use Rattle.lexer.specs.Tokens.{Token}
 use Rattle.lexer.specs.Table.{tokenRoom}
 use Rattle.lexer.specs.internal.TokenRows.{rowsOf, noToken, rowAt, kindAt, itemAt}
+use Rattle.lexer.specs.Items.{Item, itemOf, items}
 use Rattle.lexer.proofs.Laws.Tests.{or-false, eqb-turn}
 use Rattle.lexer.proofs.Laws.Rows.{rows-of-length}
-use Rattle.lexer.specs.Items.{Item, itemOf, items}
 use Rattle.typenames.specs.TypeNames.{enumName, structName, deeper, namesAt, declared, opening17}
 use Rattle.typenames.specs.internal.Declarations.{offsetAfter, nameOffset, itemsFrom, declaredFrom, namesAtRow, NextName}
 

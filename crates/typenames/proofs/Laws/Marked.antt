@@ -10,8 +10,8 @@ use borrow.Author.Tests.{eqb-true, eqb-false}
 use lib.ListN.{length, drop, length-set}
 use lib.Seq.{drop-set-lt, getD-set-same, getD-set-other}
 use Rattle.lexer.specs.Table.{tokenRoom}
-use Rattle.typenames.specs.NameList.{split, entries}
 use Rattle.lexer.specs.internal.TokenRows.{itemAt}
+use Rattle.typenames.specs.NameList.{split, entries}
 use Rattle.typenames.specs.internal.Declarations.{declaredFrom, namesAtRow}
 use Rattle.typenames.specs.internal.Prepared.{slots, slotOf, passes, marked, markedAll}
 use Rattle.typenames.proofs.Laws.Entries.{entries-none, lineLength, entryHere, entry-last, entry-more}

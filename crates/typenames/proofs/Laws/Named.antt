@@ -8,8 +8,8 @@ use lib.ListN.{length, drop}
 use Rattle.lexer.specs.Tests.{or}
 use Rattle.lexer.specs.Words.{sameName}
 use Rattle.lexer.specs.Table.{tokenRoom}
-use Rattle.typenames.specs.NameList.{split, entries}
 use Rattle.lexer.specs.internal.TokenRows.{itemAt}
+use Rattle.typenames.specs.NameList.{split, entries}
 use Rattle.typenames.specs.TypeNames.{isNamed}
 use Rattle.typenames.specs.internal.Declarations.{declaredFrom, namesAtRow}
 use Rattle.typenames.proofs.Laws.Entries.{split-first, entries-none, lineLength, entryHere, entry-last, entry-more}

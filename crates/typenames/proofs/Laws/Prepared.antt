@@ -10,8 +10,8 @@ use lib.ListN.{length, take, drop, getD, set, length-drop}
 use lib.Seq.{drop-set-add, take-suc, take-suc-set, take-all}
 use Rattle.lexer.specs.Tests.{or, pick}
 use Rattle.lexer.specs.Words.{sameName}
-use Rattle.typenames.specs.NameList.{entries}
 use Rattle.lexer.specs.Items.{Item}
+use Rattle.typenames.specs.NameList.{entries}
 use Rattle.typenames.specs.TypeNames.{isNamed, declared, typeNames}
 use Rattle.typenames.specs.internal.Scopes.{inForce}
 use Rattle.typenames.specs.internal.Prepared.{slots, passes, marked, markedAll, passing, preparedNames}

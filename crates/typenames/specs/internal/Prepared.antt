@@ -7,8 +7,8 @@ use mathlib.Core.List.{List, [], _∷_}
 use lib.Dec.{eqb, ltb}
 use lib.ListN.{drop, getD, set}
 use Rattle.lexer.specs.Tests.{pick}
-use Rattle.typenames.specs.NameList.{entries}
 use Rattle.lexer.specs.Items.{Item}
+use Rattle.typenames.specs.NameList.{entries}
 use Rattle.typenames.specs.TypeNames.{typeNames}
 
 -- how many bytes the filter has

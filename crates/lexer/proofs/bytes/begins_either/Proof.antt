@@ -1,8 +1,8 @@
 -- `lexer::bytes::begins_either` meets its contract: the byte there, if there is one, is compared with both.
 -- Assumes nothing.
-use Rattle.lexer.proofs.Laws.Fronts.{front-none, front-one}
 use Rattle.lexer.specs.Tests.{or}
 use Rattle.lexer.specs.Bytes.{beginsEither}
+use Rattle.lexer.proofs.Laws.Fronts.{front-none, front-one}
 use Rattle.lexer.proofs.bytes.begins_either.Statement.{statement}
 use Rattle.lexer.proofs.bytes.begins_either.Tie as tie
 use borrow.Author.Tests.{eq-eqb, ne-eqb}

@@ -5,11 +5,11 @@ use mathlib.Core.Path.{_≡_, _∙_, refl, sym}
 use mathlib.Core.List.{[], _∷_}
 use native.Mathlib.Numerals.{add-one}
 use lib.ListN.{drop, length-drop}
-use Rattle.lexer.proofs.Laws.Sizes.{of-token, proper-unsigned}
 use Rattle.lexer.specs.Lexemes.{unsignedNumber, withMinus, orElse}
 use Rattle.lexer.specs.declared.Lexeme.{Lexeme}
-use Rattle.lexer.proofs.Lexeme.{the-type}
 use Rattle.lexer.specs.declared.Lexeme.the-variants.{End, Skipped, Token, BadByte, OpenString}
+use Rattle.lexer.proofs.Laws.Sizes.{of-token, proper-unsigned}
+use Rattle.lexer.proofs.Lexeme.{the-type}
 use Rattle.lexer.proofs.Laws.Lexemes.{minus-number, minus-mark}
 use Rattle.lexer.proofs.lexemes.minus_at.Statement.{statement}
 use Rattle.lexer.proofs.lexemes.minus_at.Tie as tie

@@ -2,8 +2,8 @@
 -- Assumes nothing.
 use borrow.Author.Tests.{ne-eqb}
 use Rattle.lexer.specs.Tests.{and}
-use Rattle.lexer.proofs.Laws.Tests.{apart}
 use Rattle.lexer.specs.Spellings.{same, kindOf, spelledMarks}
+use Rattle.lexer.proofs.Laws.Tests.{apart}
 use Rattle.lexer.proofs.marks.pair_kind.Statement.{statement}
 use Rattle.lexer.proofs.marks.pair_kind.Tie as tie
 

@@ -4,8 +4,8 @@ use Prim.Native.Nat.{_-_}
 use mathlib.Core.Path.{refl, _∙_}
 use native.Mathlib.Omega.{arith}
 use lib.ListN.{length}
-use Rattle.lexer.proofs.Laws.Tests.{not-false}
 use Rattle.lexer.specs.internal.Leaves.{isNot, Goes}
+use Rattle.lexer.proofs.Laws.Tests.{not-false}
 use Rattle.lexer.proofs.runs.stop_end.Statement.{statement}
 use Rattle.lexer.proofs.runs.stop_end.Tie as tie
 use borrow.Author.Needs.{needs}

@@ -3,12 +3,12 @@ use Prim.Native.Nat.{ℕ, _<_}
 use native.Mathlib.Omega.{arith}
 use borrow.Author.Needs.{needs}
 use Rattle.nurl.proofs.Laws.Texts.{decimal-last, decimal-more, appends-append}
+use Rattle.nurl.proofs.text.+put_decimal.{statement}
+use Rattle.nurl.proofs.text.+put_decimal.Tie.{close}
 use Rattle.nurl.proofs.text.put_decimal.Reads as put-decimal
 use Rattle.nurl.proofs.text.put_decimal.Kinds as put-decimal-kinds
 use Rattle.nurl.proofs.text.+put_decimal.Lts-put_decimal as put-decimal-lts
 use Rattle.nurl.proofs.text.put_digit.Reads as put-digit-reads
-use Rattle.nurl.proofs.text.+put_decimal.{statement}
-use Rattle.nurl.proofs.text.+put_decimal.Tie.{close}
 use borrow.Fn.Kinds.{In}
 use borrow.Fn.PlainCycle.{Measures, is, falls, and}
 

@@ -6,12 +6,12 @@ use Prim.Native.Nat.{_-_}
 use lib.ListN.{length}
 use Rattle.lexer.specs.Table.{tokenRoom}
 use Rattle.lexer.specs.internal.TokenRows.{rowsOf}
-use Rattle.grammar.specs.Grammars.{derived, givesRow}
 use Rattle.tree.specs.internal.RowKinds.{programRow}
-use Rattle.grammar.specs.internal.Nonterminals.{program, declarations, declaration as aDeclaration}
+use Rattle.grammar.specs.Grammars.{derived, givesRow}
 use Rattle.grammar.specs.Nurl.{productions}
 use Rattle.grammar.specs.Languages.{language17}
 use Rattle.grammar.specs.Sources.{viewOf}
+use Rattle.grammar.specs.internal.Nonterminals.{program, declarations, declaration as aDeclaration}
 use Rattle.parser.specs.internal.Readings.{namesIn}
 use Rattle.parser.specs.declared.Step.the-variants.{Read}
 use Rattle.parser.proofs.Laws.After.{After, after-within, within-small}

@@ -6,10 +6,10 @@ use lib.ListN.{length}
 use Rattle.lexer.specs.Table.{tokenRoom}
 use Rattle.lexer.specs.internal.TokenRows.{rowsOf}
 use Rattle.grammar.specs.Grammars.{derived, noRow, Names}
-use Rattle.grammar.specs.internal.Nonterminals.{type, fields as fieldList}
 use Rattle.grammar.specs.Nurl.{productions}
 use Rattle.grammar.specs.Languages.{language17}
 use Rattle.grammar.specs.Sources.{viewOf}
+use Rattle.grammar.specs.internal.Nonterminals.{type, fields as fieldList}
 use Rattle.parser.proofs.Laws.After.{After, start, after-within}
 use Rattle.parser.proofs.Laws.Views.{names-fixed}
 use Rattle.parser.proofs.Laws.Loops.{ahead, reads-falls, begins-kind}

@@ -4,8 +4,8 @@ use Prim.Native.Nat.{zero, _-_}
 use mathlib.Core.Path.{_≡_, _∙_, sym}
 use Rattle.lexer.specs.Words.{sameName}
 use Rattle.lexer.specs.internal.TokenRows.{rowsOf, itemAt}
-use Rattle.typenames.specs.TypeNames.{isNamed, declared, opening17}
 use Rattle.lexer.specs.Items.{items}
+use Rattle.typenames.specs.TypeNames.{isNamed, declared, opening17}
 use Rattle.typenames.specs.internal.Declarations.{namesAtRow}
 use Rattle.typenames.proofs.Laws.Declared.{from-first}
 use Rattle.typenames.proofs.Laws.Named.{declared-none, declared-here, declared-later}

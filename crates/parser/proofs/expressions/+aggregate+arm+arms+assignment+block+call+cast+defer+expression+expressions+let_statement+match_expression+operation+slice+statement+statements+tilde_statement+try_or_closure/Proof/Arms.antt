@@ -7,10 +7,10 @@ use Rattle.lexer.specs.Tests.{among}
 use Rattle.lexer.specs.Table.{tokenRoom}
 use Rattle.lexer.specs.internal.TokenRows.{rowsOf}
 use Rattle.grammar.specs.Grammars.{derived, noRow}
-use Rattle.grammar.specs.internal.Nonterminals.{arms as armList}
 use Rattle.grammar.specs.Nurl.{productions}
 use Rattle.grammar.specs.Languages.{language17}
 use Rattle.grammar.specs.Sources.{viewOf}
+use Rattle.grammar.specs.internal.Nonterminals.{arms as armList}
 use Rattle.parser.specs.internal.Steps.{wordKinds}
 use Rattle.parser.specs.internal.Readings.{namesIn}
 use Rattle.parser.proofs.Laws.After.{After, start, after-within, within-wider}

@@ -1,7 +1,7 @@
 -- `defer`'s part of the cycle's proof.
 use mathlib.Core.Path.{_∙_}
-use Rattle.grammar.specs.internal.Nonterminals.{statement as aStatement}
 use Rattle.grammar.specs.Nurl.{productions}
+use Rattle.grammar.specs.internal.Nonterminals.{statement as aStatement}
 use Rattle.parser.specs.internal.Readings.{namesIn}
 use Rattle.parser.proofs.Laws.After.{within-small, within-wider}
 use Rattle.parser.proofs.Laws.Views.{names-fixed}

@@ -1,8 +1,9 @@
 -- `expression`'s part of the cycle's proof.
 use mathlib.Core.Path.{_≡_, refl, _∙_, sym, ap}
 use native.Mathlib.Nat.{pos-of-ne-zero}
-use Rattle.grammar.specs.internal.Nonterminals.{expression as anExpression}
 use Rattle.grammar.specs.internal.Alternatives.{kindAlternative}
+use Rattle.grammar.specs.internal.Nonterminals.{expression as anExpression}
+use Rattle.grammar.proofs.expression_alternative.Reads as expression-alternative-reads
 use Rattle.parser.specs.internal.Readings.{namesIn}
 use Rattle.parser.specs.internal.Operators.{operandCount, operationRow}
 use Rattle.parser.proofs.Laws.After.{within-small}
@@ -13,7 +14,6 @@ use Rattle.parser.proofs.Laws.Expressions.{expression-few, expression-s
 use Rattle.parser.proofs.Laws.Expressions.{block-passes}
 use Rattle.parser.proofs.expressions.expression.Reads as expression
 use Rattle.parser.proofs.steps.next_kind.Reads as next-kind-reads
-use Rattle.grammar.proofs.expression_alternative.Reads as expression-alternative-reads
 use Rattle.parser.proofs.steps.refuse.Reads as refuse-reads
 use Rattle.parser.proofs.expressions.operand_count.Reads as operand-count-reads
 use Rattle.parser.proofs.expressions.operation_row.Reads as operation-row-reads

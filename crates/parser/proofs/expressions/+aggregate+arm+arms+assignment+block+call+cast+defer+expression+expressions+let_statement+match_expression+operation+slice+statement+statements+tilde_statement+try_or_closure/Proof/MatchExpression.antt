@@ -1,13 +1,13 @@
 -- `match_expression`'s part of the cycle's proof.
 use mathlib.Core.Path.{_∙_}
-use Rattle.grammar.specs.internal.Nonterminals.{expression as anExpression}
 use Rattle.grammar.specs.Nurl.{productions}
+use Rattle.grammar.specs.internal.Nonterminals.{expression as anExpression}
 use Rattle.parser.specs.internal.Readings.{namesIn}
 use Rattle.parser.proofs.Laws.After.{reads-within, within-small, within-wider}
 use Rattle.parser.proofs.Laws.Views.{names-fixed}
 use Rattle.parser.proofs.Laws.Readers.{level-below, opened-within, within-mark, closing, closed-by}
-use Rattle.parser.proofs.Laws.Expressions.{match-expression as match-whole}
 use Rattle.parser.proofs.Laws.Openings.{no-expression}
+use Rattle.parser.proofs.Laws.Expressions.{match-expression as match-whole}
 use Rattle.parser.proofs.expressions.match_expression.Reads as match-expression
 use Rattle.parser.proofs.steps.open_row.Reads as open-row-reads
 use Rattle.parser.proofs.expressions.expression.Reads as expression

@@ -6,11 +6,11 @@ use lib.ListN.{length, replicate}
 use Rattle.lexer.specs.Table.{tokenRoom}
 use Rattle.lexer.specs.internal.TokenRows.{rowsOf}
 use Rattle.grammar.specs.Grammars.{derived, givesRow}
-use Rattle.grammar.specs.internal.Nonterminals.{expression as anExpression}
 use Rattle.grammar.specs.Nurl.{productions}
 use Rattle.grammar.specs.Languages.{language17}
 use Rattle.grammar.specs.Sources.{viewOf}
 use Rattle.grammar.specs.internal.Alternatives.{kindAlternative}
+use Rattle.grammar.specs.internal.Nonterminals.{expression as anExpression}
 use Rattle.parser.specs.internal.Steps.{nextKind}
 use Rattle.parser.specs.internal.Readings.{namesIn}
 use Rattle.parser.proofs.Laws.After.{After, after-within, within-small, within-wider}

@@ -1,14 +1,14 @@
 -- `statement`'s part of the cycle's proof.
 use mathlib.Core.Path.{_≡_, _∙_, sym, ap}
 use native.Mathlib.Nat.{pos-of-ne-zero}
-use Rattle.grammar.specs.internal.Nonterminals.{statement as aStatement}
 use Rattle.grammar.specs.internal.Alternatives.{kindAlternative}
+use Rattle.grammar.specs.internal.Nonterminals.{statement as aStatement}
+use Rattle.grammar.proofs.statement_alternative.Reads as statement-alternative-reads
 use Rattle.parser.specs.internal.Readings.{namesIn}
 use Rattle.parser.proofs.Laws.Readers.{beyond}
 use Rattle.parser.proofs.Laws.Statements.{statement-few, statement-stuck, statement-deep, statement-expression}
 use Rattle.parser.proofs.expressions.statement.Reads as statement
 use Rattle.parser.proofs.steps.next_kind.Reads as next-kind-reads
-use Rattle.grammar.proofs.statement_alternative.Reads as statement-alternative-reads
 use Rattle.parser.proofs.steps.refuse.Reads as refuse-reads
 use Rattle.parser.proofs.expressions.expression.Reads as expression
 use Rattle.parser.proofs.expressions.let_statement.Reads as let-statement

@@ -5,10 +5,10 @@ use lib.ListN.{length}
 use Rattle.lexer.specs.Table.{tokenRoom}
 use Rattle.lexer.specs.internal.TokenRows.{rowsOf}
 use Rattle.grammar.specs.Grammars.{derived, noRow}
-use Rattle.grammar.specs.internal.Nonterminals.{statements as statementList, statement as aStatement}
 use Rattle.grammar.specs.Nurl.{productions}
 use Rattle.grammar.specs.Languages.{language17}
 use Rattle.grammar.specs.Sources.{viewOf}
+use Rattle.grammar.specs.internal.Nonterminals.{statements as statementList, statement as aStatement}
 use Rattle.parser.specs.internal.Readings.{namesIn}
 use Rattle.parser.proofs.Laws.After.{After, start, after-within, within-wider}
 use Rattle.parser.proofs.Laws.Views.{names-fixed}

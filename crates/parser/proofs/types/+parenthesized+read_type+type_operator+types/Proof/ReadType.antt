@@ -3,6 +3,7 @@ use mathlib.Core.Path.{_≡_, refl, _∙_, sym, ap}
 use native.Mathlib.Nat.{pos-of-ne-zero}
 use Rattle.grammar.specs.internal.Nonterminals.{type}
 use Rattle.grammar.specs.internal.Alternatives.{kindAlternative}
+use Rattle.grammar.proofs.type_alternative.Reads as type-alternative-reads
 use Rattle.parser.specs.internal.Operators.{pointer, optional, slice, result}
 use Rattle.parser.proofs.Laws.After.{within-small}
 use Rattle.parser.proofs.Laws.Readers.{beyond, level-below, opened-within}
@@ -10,7 +11,6 @@ use Rattle.parser.proofs.Laws.Openings.{no-type}
 use Rattle.parser.proofs.Laws.Types.{type-few, type-stuck, type-deep, base-type, named-type}
 use Rattle.parser.proofs.types.read_type.Reads as read-type
 use Rattle.parser.proofs.steps.next_kind.Reads as next-kind-reads
-use Rattle.grammar.proofs.type_alternative.Reads as type-alternative-reads
 use Rattle.parser.proofs.steps.refuse.Reads as refuse-reads
 use Rattle.parser.proofs.steps.leaf.Reads as leaf-reads
 use Rattle.parser.proofs.types.type_operator.Reads as type-operator
