@@ -49,9 +49,11 @@ module _ (l : Language) (source names : List ℕ) where
       bad-names : {place : ℕ} → length source ≤ sourceLimit → checked (l .lexical) names ≡ Checked.Refused (refusalNumber "bad names") place
           → Refusal (refusalNumber "bad names") place tokens rows
       -- "a byte begins no token, space or comment"
-      bad-byte : {place : ℕ} → Admitted → scan (l .lexical) source .ending ≡ fault (refusalNumber "bad byte") place → Refusal (refusalNumber "bad byte") place tokens rows
+      bad-byte : {place : ℕ} → Admitted → scan (l .lexical) source .ending ≡ fault (refusalNumber "bad byte") place
+          → Refusal (refusalNumber "bad byte") place tokens rows
       -- "a string is not closed"
-      open-string : {place : ℕ} → Admitted → scan (l .lexical) source .ending ≡ fault (refusalNumber "open string") place → Refusal (refusalNumber "open string") place tokens rows
+      open-string : {place : ℕ} → Admitted → scan (l .lexical) source .ending ≡ fault (refusalNumber "open string") place
+          → Refusal (refusalNumber "open string") place tokens rows
       -- "more tokens than rows"
       few-token-rows : {ts : List Token} → Readable ts → tokenRoom tokens < length ts → Refusal (refusalNumber "few token rows") (length ts) tokens rows
       -- "no program": the place is "the token that the leftmost reading .. cannot take"
@@ -62,7 +64,8 @@ module _ (l : Language) (source names : List ℕ) where
           → readTokens l limit source names ts ≡ deep place → Refusal (refusalNumber "too deep") place (filled source ts tokens) (cleared rows)
       -- "more tree rows than room"
       few-tree-rows : {ts : List Token} {rs : List Row} → Readable ts → length ts ≤ tokenRoom tokens
-          → DerivationOf l source names ts limit rs → treeRoom rows < length rs → Refusal (refusalNumber "few tree rows") (length rs) (filled source ts tokens) (cleared rows)
+          → DerivationOf l source names ts limit rs → treeRoom rows < length rs
+          → Refusal (refusalNumber "few tree rows") (length rs) (filled source ts tokens) (cleared rows)
 
     -- what acceptance with two row counts says, of the tables afterwards
     pub record Acceptance (tokenCount rowCount : ℕ) (tokensAfter rowsAfter : List ℕ) : Type 0 where

@@ -31,7 +31,8 @@ deskTree = replicate (deskTreeRows * treeWidth) 0
 -- the answer for a script, and what two tables hold after it
 unfoldable pub deskResult : List ℕ → List ℕ → List ℕ → Result
 deskResult script tokens rows =
-    pick (ltb scriptLimit (length script)) (record { answer = Refused (refusalNumber "long source") 0; tokens = tokens; rows = rows }) (answer17 script [] tokens rows)
+    let refused : Result = record { answer = Refused (refusalNumber "long source") 0; tokens = tokens; rows = rows } in
+    pick (ltb scriptLimit (length script)) refused (answer17 script [] tokens rows)
 
 -- the text that is printed for a script
 unfoldable pub deskText : List ℕ → List ℕ
