@@ -90,7 +90,9 @@ pub(crate) fn close_row(rows: &mut [u32], from: Step, to: Step, kind: u32) -> St
         Step::Read(at, row) => match to {
             Step::Refused(_, _) => to,
             Step::Read(next, last) => {
-                tree::put_row(rows, row, kind, at, next - at, last - row);
+                let cover = (next - at) as u32;
+                let count = (last - row) as u32;
+                tree::put_row(rows, row, kind, at as u32, cover, count);
                 to
             }
         },

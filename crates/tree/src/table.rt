@@ -1,6 +1,6 @@
 // The tree table: the one place that knows how wide its rows are.
 ghost use mathlib.Core.Path.{_≡_};
-ghost use Prim.Native.Nat.{_<_, _^_};
+ghost use Prim.Native.Nat.{_<_};
 ghost use Rattle.tree.specs.TreeTable.{treeWidth, treeRoom, cleared, columnAt, treeRowAt};
 ghost use Rattle.tree.specs.internal.Trees.{putRow};
 
@@ -54,17 +54,16 @@ pub fn count_at(table: &[u32], row: usize) -> u32
 }
 
 // Writes a row of the tree, where the table has room for it.
-pub fn put_row(rows: &mut [u32], row: usize, kind: u32, first: usize, cover: usize, count: usize)
-    requires { ⌜ (first < 2 ^ 32) × (cover < 2 ^ 32) × (count < 2 ^ 32) ⌝ }
+pub fn put_row(rows: &mut [u32], row: usize, kind: u32, first: u32, cover: u32, count: u32)
     ensures { λ r. ⌜ now (rows .exit)
         ≡ putRow row (record { kind = kind; first = first; cover = cover; count = count }) (now (rows .entry)) ⌝ }
 {
     if row < rows.len() / WIDTH {
         let at = row * WIDTH;
         rows[at] = kind;
-        rows[at + 1] = first as u32;
-        rows[at + 2] = cover as u32;
-        rows[at + 3] = count as u32;
+        rows[at + 1] = first;
+        rows[at + 2] = cover;
+        rows[at + 3] = count;
     }
 }
 

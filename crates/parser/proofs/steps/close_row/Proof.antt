@@ -19,30 +19,45 @@ enum-told-2 c = search needs
 enum-known-to : tie.Need-enum-known-to
 enum-known-to c = search needs
 
-sub-put-row : tie.Need-sub-put-row
-sub-put-row c =
-    let from = c .before .before .before .before .before .from in
-    let to = c .before .before .to in
-    let pre = c .before .before .before .before .before .before .before .before .pre in
+sub-cover : tie.Need-sub-cover
+sub-cover c =
+    let from = c .before .before .before .before .from in
+    let to = c .before .to in
+    let pre = c .before .before .before .before .before .before .before .pre in
     let known = spans-read _ _ _ _ _ _ (from .given .1) (to .given .1) (pre .1 .1) in
     omega (arith, known .0)
 
-sub-put-row-2 : tie.Need-sub-put-row-2
-sub-put-row-2 c =
-    let from = c .before .before .before .before .before .from in
-    let to = c .before .before .to in
-    let pre = c .before .before .before .before .before .before .before .before .pre in
+cast-cover : tie.Need-cast-cover
+cast-cover c =
+    let to = c .before .to in
+    let pre = c .before .before .before .before .before .before .before .pre in
+    let come = small-read _ _ _ (to .given .1) (pre .1 .0) in
+    omega (arith, come .0)
+
+sub-count : tie.Need-sub-count
+sub-count c =
+    let from = c .before .before .before .before .from in
+    let to = c .before .to in
+    let pre = c .before .before .before .before .before .before .before .pre in
     let known = spans-read _ _ _ _ _ _ (from .given .1) (to .given .1) (pre .1 .1) in
     omega (arith, known .1)
 
-put-row-requires : tie.Need-put-row-requires
-put-row-requires c κs =
+cast-count : tie.Need-cast-count
+cast-count c =
+    let to = c .before .to in
+    let pre = c .before .before .before .before .before .before .before .pre in
+    let come = small-read _ _ _ (to .given .1) (pre .1 .0) in
+    omega (arith, come .1)
+
+cast-put-row : tie.Need-cast-put-row
+cast-put-row c =
     let from = c .before .before .before .before .before .from in
     let pre = c .before .before .before .before .before .before .before .before .pre in
-    let to = c .before .before .to in
     let begun = small-read _ _ _ (from .given .1) (pre .0) in
-    let come = small-read _ _ _ (to .given .1) (pre .1 .0) in
-    (omega (arith, begun .0), omega (arith, come .0), omega (arith, come .1))
+    omega (arith, begun .0)
+
+put-row-requires : tie.Need-put-row-requires
+put-row-requires c κs = search needs
 
 returns : tie.Need-returns
 unfolding closed
@@ -73,8 +88,11 @@ close-row-spec =
     enum-known-from
     enum-told-2
     enum-known-to
-    sub-put-row
-    sub-put-row-2
+    sub-cover
+    cast-cover
+    sub-count
+    cast-count
+    cast-put-row
     put-row-requires
     returns
     returns-2

@@ -17,9 +17,6 @@ mul-rows c = search needs
 slice-write-rows : tie.Need-slice-write-rows
 slice-write-rows c = search needs
 
-cast-rows : tie.Need-cast-rows
-cast-rows c = search needs
-
 add-rows : tie.Need-add-rows
 add-rows c = search needs
 
@@ -29,9 +26,6 @@ mul-rows-2 c = search needs
 slice-write-rows-2 : tie.Need-slice-write-rows-2
 slice-write-rows-2 c = simp length-set (omega arith)
 
-cast-rows-2 : tie.Need-cast-rows-2
-cast-rows-2 c = search needs
-
 add-rows-2 : tie.Need-add-rows-2
 add-rows-2 c = search needs
 
@@ -40,9 +34,6 @@ mul-rows-3 c = search needs
 
 slice-write-rows-3 : tie.Need-slice-write-rows-3
 slice-write-rows-3 c = simp length-set (omega arith)
-
-cast-rows-3 : tie.Need-cast-rows-3
-cast-rows-3 c = search needs
 
 add-rows-3 : tie.Need-add-rows-3
 add-rows-3 c = search needs
@@ -71,15 +62,12 @@ put-row-spec =
     mul-at
     mul-rows
     slice-write-rows
-    cast-rows
     add-rows
     mul-rows-2
     slice-write-rows-2
-    cast-rows-2
     add-rows-2
     mul-rows-3
     slice-write-rows-3
-    cast-rows-3
     add-rows-3
     mul-rows-4
     slice-write-rows-4
