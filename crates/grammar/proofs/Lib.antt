@@ -1,2 +1,2 @@
--- What is proved of grammars, of the table of NURL and of the answer.
+-- What is proved of grammars and of the table of NURL.
 pub mod Laws

@@ -21,7 +21,7 @@ use Rattle.grammar.specs.Grammars.{agrees, asked, met}
 use Rattle.grammar.specs.Derivations.{Has, here, there, Derives, end, taken, held, entered}
 use Rattle.grammar.specs.internal.Nonterminals.{mutable, nameList, type, structParameters}
 use Rattle.grammar.specs.Classes.{typeName}
-use Rattle.grammar.specs.internal.Classes.{name, typeWord}
+use Rattle.grammar.specs.internal.Classes.{name, declaredWord}
 use Rattle.grammar.specs.Questions.{oneOf, fits, fitsOne, answerTo}
 use Rattle.grammar.specs.Nurl.{questions17, productions}
 use Rattle.grammar.specs.internal.Productions.{kindToken, ruleOf, opensStruct, opensStructNames}
@@ -83,7 +83,7 @@ mutable17 : those mutable atName productions ≡ ruleOf mutable noRow [] ∷ []
 unfolding and or among productions those atName
 mutable17 = refl
 
-type17 : those type atName productions ≡ ruleOf type (givesRow namedTypeRow) (token typeWord ∷ []) ∷ []
+type17 : those type atName productions ≡ ruleOf type (givesRow namedTypeRow) (token declaredWord ∷ []) ∷ []
 unfolding and or among productions those atName
 type17 = refl
 
@@ -92,7 +92,7 @@ none-taken : {g : List Production} {v : View} {e : Names} {n i j said : ℕ} {p 
 none-taken here end = refl
 
 one-taken : {g : List Production} {v : View} {e : Names} {n i j said : ℕ} {p : Production} {rows : List Row}
-    → Has (ruleOf type (givesRow namedTypeRow) (token typeWord ∷ []) ∷ []) p → Derives g v e n (p .right) i j rows said → j ≡ suc i
+    → Has (ruleOf type (givesRow namedTypeRow) (token declaredWord ∷ []) ∷ []) p → Derives g v e n (p .right) i j rows said → j ≡ suc i
 one-taken here (taken h end) = refl
 
 -- the productions of `structParameters`

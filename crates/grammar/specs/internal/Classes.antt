@@ -9,21 +9,13 @@ use Rattle.grammar.specs.Classes.{typeName}
 abbrev pub name : List ℕ
 name = ident ∷ typeName ∷ []
 
--- rule 2: "IDENT, `T`, `F`"
+-- rule 2: "IDENT, `T`, `F`"; also rule 1's type names and rule 10's arm heads
 abbrev pub declaredWord : List ℕ
 declaredWord = ident ∷ typeName ∷ boolean ∷ []
 
 -- rule 2: "at a call, and in `( Name .. )`, keywords too"
 abbrev pub anyWord : List ℕ
 anyWord = ident ∷ typeName ∷ boolean ∷ keyword ∷ []
-
--- rule 1: "A type name is any IDENT, `T` or `F`"
-abbrev pub typeWord : List ℕ
-typeWord = declaredWord
-
--- rule 10: "An arm head is an IDENT (`_` among them) or a boolean"
-abbrev pub armHead : List ℕ
-armHead = ident ∷ typeName ∷ boolean ∷ []
 
 -- match_payload = IDENT | INT
 abbrev pub payloadToken : List ℕ

@@ -21,7 +21,7 @@ use Rattle.grammar.specs.Nurl.{productions}
 use Rattle.grammar.specs.Languages.{language17}
 use Rattle.grammar.specs.Sources.{viewOf}
 use Rattle.grammar.specs.internal.Alternatives.{kindOfClass, kindAlternative, nth}
-use Rattle.grammar.specs.internal.Productions.{ruleOf, kindToken as only}
+use Rattle.grammar.specs.internal.Productions.{ruleOf, kindToken}
 use Rattle.grammar.proofs.Laws.Checks.{below, implies}
 use Rattle.grammar.proofs.Laws.CheckLaws.{implies-true}
 use Rattle.grammar.proofs.Laws.Views.{classes}
@@ -114,15 +114,15 @@ module _ (source tokens : List ℕ) (good : Tokens tokens) (e : Names) where
   unfolding rowed levels
   function-deep s is spent =
       row-deep source tokens good e s
-      (selected (ruleOf function (givesRow functionRow) (only at ∷ token name ∷ derived typeParameters ∷ derived parameters ∷ only arrow ∷ derived type
-      ∷ derived block ∷ []))) spent refl (λ j k. function-one v e j (class-low source tokens good e j) (k ∙ is))
+      (selected (ruleOf function (givesRow functionRow) (kindToken at ∷ token name ∷ derived typeParameters ∷ derived parameters ∷ kindToken arrow
+      ∷ derived type ∷ derived block ∷ []))) spent refl (λ j k. function-one v e j (class-low source tokens good e j) (k ∙ is))
 
   -- .. and so are traits and implementations, ..
   interface-deep : {n : ℕ} (s : Step) {t : List ℕ} → nextKind tokens s ≡ percent → n ≡ 0 → Part n 1 interface s t (refusedAt 7 s) t
   unfolding rowed levels
   interface-deep s is spent =
       row-deep source tokens good e s
-      (selected (ruleOf interface rowOf (only percent ∷ token name ∷ derived typeParameters ∷ derived interfaceRest ∷ []))) spent refl
+      (selected (ruleOf interface rowOf (kindToken percent ∷ token name ∷ derived typeParameters ∷ derived interfaceRest ∷ []))) spent refl
       (λ j k. interface-one v e j (class-low source tokens good e j) (k ∙ is))
 
   -- .. and every declaration

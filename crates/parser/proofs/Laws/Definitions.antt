@@ -24,7 +24,7 @@ use Rattle.grammar.specs.Nurl.{productions, plainName}
 use Rattle.grammar.specs.Languages.{language17}
 use Rattle.grammar.specs.Sources.{viewOf}
 use Rattle.grammar.specs.internal.Alternatives.{kindOfClass, kindAlternative, nth}
-use Rattle.grammar.specs.internal.Productions.{ruleOf, opensStruct, kindToken as only}
+use Rattle.grammar.specs.internal.Productions.{ruleOf, opensStruct, kindToken}
 use Rattle.grammar.proofs.Laws.Views.{classes}
 use Rattle.grammar.proofs.Laws.Alternatives17.{declaration-definition, definition-struct, definition-enum, definition-constant}
 use Rattle.grammar.proofs.Laws.Alternatives17.{definition-constant-tilde, definition-none, mutable-some, mutable-none, variants-more}
@@ -80,7 +80,7 @@ module _ (source tokens : List ℕ) (good : Tokens tokens) (e : Names) where
 
   struct-takes : (s : Step) → AnswersKinds (query opensStruct) tokens s true → (j k : ℕ) → s ≡ Read j k
       → Takes productions v e definition (ruleOf definition (givesKind structRow)
-      (when (query opensStruct) ∷ token name ∷ derived structParameters ∷ only leftBrace ∷ derived fields ∷ only rightBrace ∷ [])) j
+      (when (query opensStruct) ∷ token name ∷ derived structParameters ∷ kindToken leftBrace ∷ derived fields ∷ kindToken rightBrace ∷ [])) j
   unfolding asked
   struct-takes s opens j k read =
       takes (definition-struct v e j (class-low source tokens good e j)
@@ -110,7 +110,7 @@ module _ (source tokens : List ℕ) (good : Tokens tokens) (e : Names) where
   unfolding between and
   enum begins within level to₀ is to₁ to₂ to₃ d₄ to₅ =
       let said = spoken-by source tokens good e
-      (ruleOf definition (givesKind enumRow) (only bar ∷ token name ∷ only leftBrace ∷ derived variants ∷ only rightBrace ∷ []))
+      (ruleOf definition (givesKind enumRow) (kindToken bar ∷ token name ∷ kindToken leftBrace ∷ derived variants ∷ kindToken rightBrace ∷ []))
       (defined begins within level to₀) (λ j k. definition-enum v e j (class-low source tokens good e j) (k ∙ is)) refl in
       let a₂ = took-name source tokens good e (took-mark source tokens good e bar said refl to₁) to₂ in
       let a₃ = took-mark source tokens good e leftBrace a₂ refl to₃ in

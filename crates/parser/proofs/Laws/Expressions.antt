@@ -26,7 +26,7 @@ use Rattle.grammar.specs.Nurl.{productions}
 use Rattle.grammar.specs.Languages.{language17}
 use Rattle.grammar.specs.Sources.{viewOf}
 use Rattle.grammar.specs.internal.Alternatives.{kindOfClass, kindAlternative, nth}
-use Rattle.grammar.specs.internal.Productions.{ruleOf, aStar, opensClosure, zeroOrOne, kindToken as only}
+use Rattle.grammar.specs.internal.Productions.{ruleOf, aStar, opensClosure, zeroOrOne, kindToken}
 use Rattle.grammar.proofs.Laws.Checks.{below, implies}
 use Rattle.grammar.proofs.Laws.CheckLaws.{implies-true, implies-false}
 use Rattle.grammar.proofs.Laws.Views.{classes}
@@ -198,7 +198,7 @@ module _ (source tokens : List ℕ) (good : Tokens tokens) (e : Names) where
       (kind-leads (λ (k : ℕ). eqb (kindAlternative expression k) 1) (among literals) literal-kind j is)
 
   block-chosen : (j : ℕ) → eqb (kindAlternative expression (kind j)) 10 ≡ true
-      → choice productions v e block j ≡ selected (ruleOf block (givesRow blockRow) (only leftBrace ∷ derived statements ∷ only rightBrace ∷ []))
+      → choice productions v e block j ≡ selected (ruleOf block (givesRow blockRow) (kindToken leftBrace ∷ derived statements ∷ kindToken rightBrace ∷ []))
   block-chosen j is =
       block-one v e j (class-low source tokens good e j) (eqb-true _ _
       (kind-leads (λ (k : ℕ). eqb (kindAlternative expression k) 10) (λ (k : ℕ). eqb k leftBrace) block-kind j is))
@@ -219,7 +219,7 @@ module _ (source tokens : List ℕ) (good : Tokens tokens) (e : Names) where
       let fixed = names-fixed source tokens good e in
       gives-inlined productions v e fixed (ruleOf expression noRow (derived block ∷ []))
       (expression-chosen j (eqb-true _ _ is) ∙ expression-block) refl
-      (gives-deep productions v e fixed block j (ruleOf block (givesRow blockRow) (only leftBrace ∷ derived statements ∷ only rightBrace ∷ [])) []
+      (gives-deep productions v e fixed block j (ruleOf block (givesRow blockRow) (kindToken leftBrace ∷ derived statements ∷ kindToken rightBrace ∷ [])) []
       (block-chosen j is) refl)
 
   expression-deeper : (j : ℕ) → (kindAlternative expression (kind j) ≡ 0 → ⊥)
@@ -336,7 +336,7 @@ module _ (source tokens : List ℕ) (good : Tokens tokens) (e : Names) where
 
   abbrev closureRule : Production
   closureRule =
-      ruleOf tryOrClosure (givesKind closureRow) (when (query opensClosure) ∷ derived parameters ∷ only arrow ∷ derived type ∷ derived block ∷ [])
+      ruleOf tryOrClosure (givesKind closureRow) (when (query opensClosure) ∷ derived parameters ∷ kindToken arrow ∷ derived type ∷ derived block ∷ [])
 
   closure-takes : (j : ℕ) → v .holds opensClosure j ≡ true → opensSome (kind j) ≡ true
       → choice productions v e tryOrClosure j ≡ selected closureRule

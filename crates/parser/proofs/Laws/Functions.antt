@@ -21,7 +21,7 @@ use Rattle.grammar.specs.Nurl.{productions}
 use Rattle.grammar.specs.Languages.{language17}
 use Rattle.grammar.specs.Sources.{viewOf}
 use Rattle.grammar.specs.internal.Alternatives.{kindOfClass, kindAlternative, nth}
-use Rattle.grammar.specs.internal.Productions.{ruleOf, kindToken as only}
+use Rattle.grammar.specs.internal.Productions.{ruleOf, kindToken}
 use Rattle.grammar.proofs.Laws.Checks.{below}
 use Rattle.grammar.proofs.Laws.Views.{classes}
 use Rattle.grammar.proofs.Laws.Alternatives17.{function-one, functions-more, functions-done, method-one, methods-more, methods-done}
@@ -44,7 +44,7 @@ at-kind n is = let same = eqb-true n at is in omega arith
 
 -- what comes after the `@` of a function or a method
 abbrev header : List Symbol → List Symbol
-header ss = token name ∷ derived typeParameters ∷ derived parameters ∷ only arrow ∷ derived type ∷ ss
+header ss = token name ∷ derived typeParameters ∷ derived parameters ∷ kindToken arrow ∷ derived type ∷ ss
 
 module _ (source tokens : List ℕ) (good : Tokens tokens) (e : Names) where
   abbrev v : View
@@ -58,7 +58,7 @@ module _ (source tokens : List ℕ) (good : Tokens tokens) (e : Names) where
 
   -- `@` IDENT type-parameters? parameter* `→` type
   headed : {n below x : ℕ} {m : Makes} {ss : List Symbol} {s s₀ s₁ s₂ s₃ s₄ s₅ : Step} {t t₁ t₂ t₃ : List ℕ}
-      → ((j : ℕ) → kindOfClass (v .class e j) ≡ at → choice productions v e x j ≡ selected (ruleOf x m (only at ∷ header ss))) → levels m ≡ 1
+      → ((j : ℕ) → kindOfClass (v .class e j) ≡ at → choice productions v e x j ≡ selected (ruleOf x m (kindToken at ∷ header ss))) → levels m ≡ 1
       → nextKind tokens s ≡ at → Within tokens 1 s → n ≡ suc below → s₀ ≡ opened s → s₁ ≡ takenKind tokens ident s₀
       → Part below 0 typeParameters s₁ t s₂ t₁ → Part below 0 parameters s₂ t₁ s₃ t₂ → s₄ ≡ takenKind tokens arrow s₃
       → Part below 1 type s₄ t₂ s₅ t₃ → Under x n below m 4 ss s t s₅ t₃
@@ -112,7 +112,7 @@ module _ (source tokens : List ℕ) (good : Tokens tokens) (e : Names) where
   pub method-deep : {n : ℕ} (s : Step) {t : List ℕ} → nextKind tokens s ≡ at → n ≡ 0 → Part n 1 method s t (refusedAt 7 s) t
   unfolding rowed levels
   method-deep s is spent =
-      row-deep source tokens good e s (selected (ruleOf method rowOf (only at ∷ header (derived body ∷ [])))) spent refl
+      row-deep source tokens good e s (selected (ruleOf method rowOf (kindToken at ∷ header (derived body ∷ [])))) spent refl
       (λ j k. method-one v e j (class-low source tokens good e j) (k ∙ is))
 
   -- as many functions as there are
@@ -167,7 +167,7 @@ module _ (source tokens : List ℕ) (good : Tokens tokens) (e : Names) where
   unfolding between and
   trait begins within level to₀ to₁ d₂ brace to₃ d₄ to₅ =
       let said = spoken-by source tokens good e
-      (ruleOf interfaceRest (givesKind traitRow) (only leftBrace ∷ derived methods ∷ only rightBrace ∷ []))
+      (ruleOf interfaceRest (givesKind traitRow) (kindToken leftBrace ∷ derived methods ∷ kindToken rightBrace ∷ []))
       (interfaced begins within level to₀ to₁ d₂)
       (λ j k. interfaceRest-trait v e j (class-low source tokens good e j) (k ∙ eqb-true _ _ brace)) refl in
       let a₃ = took-mark source tokens good e leftBrace said refl to₃ in
@@ -176,7 +176,7 @@ module _ (source tokens : List ℕ) (good : Tokens tokens) (e : Names) where
 
   impl-takes : (s : Step) → eqb (nextKind tokens s) leftBrace ≡ false → (j : ℕ) → kindOfClass (v .class e j) ≡ nextKind tokens s
       → Takes productions v e interfaceRest
-      (ruleOf interfaceRest (givesKind implRow) (derived type ∷ only leftBrace ∷ derived functions ∷ only rightBrace ∷ [])) j
+      (ruleOf interfaceRest (givesKind implRow) (derived type ∷ kindToken leftBrace ∷ derived functions ∷ kindToken rightBrace ∷ [])) j
   unfolding nth
   impl-takes s brace j k = by (kindAlternative type (kindOfClass (v .class e j))) refl
     where
@@ -185,7 +185,7 @@ module _ (source tokens : List ℕ) (good : Tokens tokens) (e : Names) where
 
       by : (a : ℕ) → kindAlternative type (kindOfClass (v .class e j)) ≡ a
           → Takes productions v e interfaceRest
-          (ruleOf interfaceRest (givesKind implRow) (derived type ∷ only leftBrace ∷ derived functions ∷ only rightBrace ∷ [])) j
+          (ruleOf interfaceRest (givesKind implRow) (derived type ∷ kindToken leftBrace ∷ derived functions ∷ kindToken rightBrace ∷ [])) j
       by zero h =
           vain (interfaceRest-none v e j low (ap (λ (n : ℕ). eqb n leftBrace) k ∙ brace) h)
           (barred-part (type-none source tokens good e j h))

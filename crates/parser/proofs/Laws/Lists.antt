@@ -21,7 +21,7 @@ use Rattle.grammar.specs.Nurl.{productions, questions17}
 use Rattle.grammar.specs.Languages.{language17, view}
 use Rattle.grammar.specs.Sources.{viewOf}
 use Rattle.grammar.specs.internal.Alternatives.{kindOfClass}
-use Rattle.grammar.specs.internal.Productions.{ruleOf, opensNames, opensWords, opensStructNames, kindToken as only}
+use Rattle.grammar.specs.internal.Productions.{ruleOf, opensNames, opensWords, opensStructNames, kindToken}
 use Rattle.grammar.proofs.Laws.Checks.{below}
 use Rattle.grammar.proofs.Laws.Alternatives17.{nameList-one, wordList-one, typeParameters-some, typeParameters-none, typeArguments-some}
 use Rattle.grammar.proofs.Laws.Alternatives17.{typeArguments-none, structParameters-some, structParameters-none}
@@ -74,7 +74,7 @@ module _ (source tokens : List ℕ) (good : Tokens tokens) (e : Names) where
   list-begun : {n below : ℕ} (keywords : Bool) {s s₀ : Step} {t : List ℕ} → nextKind tokens s ≡ leftBracket → Within tokens 1 s
       → n ≡ suc below → s₀ ≡ opened s
       → After productions v (tokenRoom tokens) e n below (givesRow listRow) 1 0 (derived (listOf keywords) ∷ [])
-      (token (pick keywords anyWord declaredWord) ∷ derived (moreOf keywords) ∷ only rightBracket ∷ []) s t s₀ t
+      (token (pick keywords anyWord declaredWord) ∷ derived (moreOf keywords) ∷ kindToken rightBracket ∷ []) s t s₀ t
   unfolding levels between and
   list-begun true is within level to =
       begun-mark source tokens good e leftBracket refl (λ j. wordList-one v e j (class-low source tokens good e j))
@@ -108,12 +108,12 @@ module _ (source tokens : List ℕ) (good : Tokens tokens) (e : Names) where
   unfolding rowed levels
   list-deep true s opens spent =
       row-deep source tokens good e s
-      (selected (ruleOf wordList (givesRow listRow) (only leftBracket ∷ token anyWord ∷ derived moreWords ∷ only rightBracket ∷ []))) spent refl
+      (selected (ruleOf wordList (givesRow listRow) (kindToken leftBracket ∷ token anyWord ∷ derived moreWords ∷ kindToken rightBracket ∷ []))) spent refl
       (λ (j : ℕ) (k : kindOfClass (v .class e j) ≡ nextKind tokens s).
       wordList-one v e j (class-low source tokens good e j) (k ∙ list-bracket true tokens s opens))
   list-deep false s opens spent =
       row-deep source tokens good e s
-      (selected (ruleOf nameList (givesRow listRow) (only leftBracket ∷ token declaredWord ∷ derived moreNames ∷ only rightBracket ∷ []))) spent refl
+      (selected (ruleOf nameList (givesRow listRow) (kindToken leftBracket ∷ token declaredWord ∷ derived moreNames ∷ kindToken rightBracket ∷ []))) spent refl
       (λ (j : ℕ) (k : kindOfClass (v .class e j) ≡ nextKind tokens s).
       nameList-one v e j (class-low source tokens good e j) (k ∙ list-bracket false tokens s opens))
 

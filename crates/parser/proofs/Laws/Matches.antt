@@ -13,11 +13,11 @@ use Rattle.grammar.specs.Grammars.{Symbol, token, derived, Makes, givesRow, noR
 use Rattle.grammar.specs.Rows.{levels}
 use Rattle.grammar.specs.Reading.{selected}
 use Rattle.grammar.specs.internal.Nonterminals.{expression, arms, arm, payloads3, payloads2, payloads1, payload}
-use Rattle.grammar.specs.internal.Classes.{armHead, payloadToken}
+use Rattle.grammar.specs.internal.Classes.{declaredWord, payloadToken}
 use Rattle.grammar.specs.Nurl.{productions}
 use Rattle.grammar.specs.Languages.{language17}
 use Rattle.grammar.specs.Sources.{viewOf}
-use Rattle.grammar.specs.internal.Productions.{ruleOf, kindToken as only}
+use Rattle.grammar.specs.internal.Productions.{ruleOf, kindToken}
 use Rattle.grammar.proofs.Laws.Checks.{below, implies}
 use Rattle.grammar.proofs.Laws.Alternatives17.{arms-more, arms-done, arm-one, payload-one, payloads3-more, payloads3-done, payloads2-more}
 use Rattle.grammar.proofs.Laws.Alternatives17.{payloads2-done, payloads1-more, payloads1-done}
@@ -36,7 +36,7 @@ armKinds = ident ∷ boolean ∷ []
 abbrev pub payloadKinds : List ℕ
 payloadKinds = ident ∷ int ∷ []
 
-arm-opens : opensWith (among armKinds) armHead ≡ true
+arm-opens : opensWith (among armKinds) declaredWord ≡ true
 unfolding opensWith below implies and or among
 arm-opens = refl
 
@@ -99,7 +99,7 @@ module _ (source tokens : List ℕ) (good : Tokens tokens) (e : Names) where
   unfolding rowed levels
   arm-deep s is spent =
       row-deep source tokens good e s
-      (selected (ruleOf arm (givesRow armRow) (token armHead ∷ derived payloads3 ∷ only arrow ∷ derived expression ∷ []))) spent refl
+      (selected (ruleOf arm (givesRow armRow) (token declaredWord ∷ derived payloads3 ∷ kindToken arrow ∷ derived expression ∷ []))) spent refl
       (λ j k. arm-one v e j (class-low source tokens good e j) (ap (among armKinds) k ∙ is))
 
   payload-begun : {n below : ℕ} {s s₀ : Step} {t : List ℕ} → among payloadKinds (nextKind tokens s) ≡ true → Within tokens 1 s

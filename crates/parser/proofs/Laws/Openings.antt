@@ -9,7 +9,7 @@ use Rattle.lexer.specs.Tests.{and, or, among}
 use Rattle.lexer.specs.internal.Kinds.{keyword, sizeof, dollar, ampersand, at, colon, equal, semicolon, tilde, leftParen, leftBracket}
 use Rattle.lexer.specs.internal.Kinds.{bang, caret, backslash, question, dot, hash, star, questionQuestion}
 use Rattle.grammar.specs.internal.Nonterminals.{type, expression, statement, declaration}
-use Rattle.grammar.specs.internal.Classes.{name, typeWord, operators}
+use Rattle.grammar.specs.internal.Classes.{name, declaredWord, operators}
 use Rattle.grammar.specs.internal.Alternatives.{kindAlternative}
 use Rattle.grammar.proofs.Laws.Checks.{below, implies}
 use Rattle.grammar.proofs.Laws.Groups17.{kindNumber, kind-same}
@@ -66,9 +66,9 @@ pub type-parenthesized-begins : Begins type 6 (leftParen ∷ [])
 unfolding opensWith below implies and or among kindNumber
 type-parenthesized-begins = begins-same type 6 (leftParen ∷ []) refl
 
-pub type-named-begins : Begins type 7 typeWord
+pub type-named-begins : Begins type 7 declaredWord
 unfolding opensWith below implies and or among kindNumber
-type-named-begins = begins-same type 7 typeWord refl
+type-named-begins = begins-same type 7 declaredWord refl
 
 pub expression-name-begins : Begins expression 2 name
 unfolding opensWith below implies and or among kindNumber

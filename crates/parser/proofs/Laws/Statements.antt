@@ -23,7 +23,7 @@ use Rattle.grammar.specs.Nurl.{productions, plainName}
 use Rattle.grammar.specs.Languages.{language17}
 use Rattle.grammar.specs.Sources.{viewOf}
 use Rattle.grammar.specs.internal.Alternatives.{kindOfClass, kindAlternative, nth}
-use Rattle.grammar.specs.internal.Productions.{ruleOf, aTilde, aBrace, twoNames, kindToken as only}
+use Rattle.grammar.specs.internal.Productions.{ruleOf, aTilde, aBrace, twoNames, kindToken}
 use Rattle.grammar.proofs.Laws.Checks.{below, implies}
 use Rattle.grammar.proofs.Laws.Views.{classes}
 use Rattle.grammar.proofs.Laws.Groups17.{kindNumber, kind-same}
@@ -104,7 +104,7 @@ module _ (source tokens : List ℕ) (good : Tokens tokens) (e : Names) where
       → Part n 1 block s t (refusedAt 7 s) t
   unfolding rowed levels
   block-deep s is spent =
-      row-deep source tokens good e s (selected (ruleOf block (givesRow blockRow) (only leftBrace ∷ derived statements ∷ only rightBrace ∷ [])))
+      row-deep source tokens good e s (selected (ruleOf block (givesRow blockRow) (kindToken leftBrace ∷ derived statements ∷ kindToken rightBrace ∷ [])))
       spent refl
       (λ j k. block-one v e j (class-low source tokens good e j) (k ∙ eqb-true (nextKind tokens s) leftBrace is))
 
@@ -239,7 +239,7 @@ module _ (source tokens : List ℕ) (good : Tokens tokens) (e : Names) where
       let fixed = names-fixed source tokens good e in
       let a₀ = statement-begun 3 statement-assignment statement-assignment-begins begins within level refl to₀ in
       let said = spoken-by source tokens good e
-      (ruleOf assignment (givesKind setElementRow) (only dot ∷ derived expression ∷ derived expression ∷ derived expression ∷ [])) a₀
+      (ruleOf assignment (givesKind setElementRow) (kindToken dot ∷ derived expression ∷ derived expression ∷ derived expression ∷ [])) a₀
       (λ j k. assignment-setElement v e j (class-low source tokens good e j) (k ∙ eqb-true (nextKind tokens s₀) dot is)) refl in
       let a₁ = took-mark source tokens good e dot said refl to₁ in
       let a₃ = went productions v tokens e fixed (went productions v tokens e fixed a₁ d₂) d₃ in

@@ -22,7 +22,7 @@ use Rattle.grammar.specs.Nurl.{productions}
 use Rattle.grammar.specs.Languages.{language17}
 use Rattle.grammar.specs.Sources.{viewOf}
 use Rattle.grammar.specs.internal.Alternatives.{kindOfClass, kindAlternative, nth}
-use Rattle.grammar.specs.internal.Productions.{ruleOf, kindToken as only}
+use Rattle.grammar.specs.internal.Productions.{ruleOf, kindToken}
 use Rattle.grammar.proofs.Laws.Checks.{below, implies}
 use Rattle.grammar.proofs.Laws.Views.{classes}
 use Rattle.grammar.proofs.Laws.Groups17.{kindNumber}
@@ -123,14 +123,14 @@ module _ (source tokens : List ℕ) (good : Tokens tokens) (e : Names) where
       let fixed = names-fixed source tokens good e in
       let a₀ = type-begun 6 type-parenthesized type-parenthesized-begins begins within level refl to₀ in
       let said = spoken-by source tokens good e
-      (ruleOf parenthesized (givesKind functionTypeRow) (only at ∷ derived type ∷ derived types ∷ only rightParen ∷ [])) a₀
+      (ruleOf parenthesized (givesKind functionTypeRow) (kindToken at ∷ derived type ∷ derived types ∷ kindToken rightParen ∷ [])) a₀
       (λ j k. parenthesized-functionType v e j (class-low source tokens good e j) (k ∙ eqb-true (nextKind tokens s₀) at is)) refl in
       let a₁ = took-mark source tokens good e at said refl to₁ in
       let a₃ = went productions v tokens e fixed (went productions v tokens e fixed a₁ d₂) d₃ in
       took-mark source tokens good e rightParen a₃ refl to₄
 
   instance-takes : (s : Step) → eqb (nextKind tokens s) at ≡ false → (j : ℕ) → kindOfClass (v .class e j) ≡ nextKind tokens s
-      → Takes productions v e parenthesized (ruleOf parenthesized (givesKind instanceRow) (token name ∷ token anyWord ∷ derived moreWords ∷ only
+      → Takes productions v e parenthesized (ruleOf parenthesized (givesKind instanceRow) (token name ∷ token anyWord ∷ derived moreWords ∷ kindToken
       rightParen ∷ [])) j
   instance-takes s not j k = by (eqb (kindOfClass (v .class e j)) ident) refl
     where
@@ -138,7 +138,7 @@ module _ (source tokens : List ℕ) (good : Tokens tokens) (e : Names) where
       low = class-low source tokens good e j
 
       by : (b : Bool) → eqb (kindOfClass (v .class e j)) ident ≡ b
-          → Takes productions v e parenthesized (ruleOf parenthesized (givesKind instanceRow) (token name ∷ token anyWord ∷ derived moreWords ∷ only
+          → Takes productions v e parenthesized (ruleOf parenthesized (givesKind instanceRow) (token name ∷ token anyWord ∷ derived moreWords ∷ kindToken
           rightParen ∷ [])) j
       by true h = takes (parenthesized-instance v e j low (eqb-true _ _ h))
       by false h =
