@@ -9,10 +9,12 @@ pub mod Outcomes
 pub mod Sound
 pub mod Grows
 pub mod Fuel
-pub mod Places
 pub mod Takes
 pub mod Forests
 pub mod Readings
+pub mod Reaches
+pub mod Beyond
+pub mod Places
 pub mod Views
 pub mod Patterns
 pub mod Table17

@@ -2,6 +2,7 @@
 pub mod Grammars
 pub mod Rows
 pub mod Derivations
+pub mod Reaches
 pub mod Forests
 pub mod First
 pub mod Reading

@@ -6,12 +6,13 @@ use mathlib.Core.Path.{_≡_}
 use mathlib.Core.Bool.{Bool, true, false}
 use mathlib.Core.List.{List, [], _∷_}
 use lib.Dec.{eqb, leb, ltb}
+use lib.ListN.{length}
 use Rattle.lexer.specs.Tests.{and, or, between, pick, among}
 use Rattle.grammar.specs.Grammars.{endOfTokens, next, query, Symbol, token, derived, condition, Makes, givesRow, rowOf, givesKind}
 use Rattle.grammar.specs.Grammars.{noRow, Production, agrees}
 use Rattle.grammar.specs.Rows.{levels}
 use Rattle.grammar.specs.Reading.{breadth, whole}
-use Rattle.grammar.specs.First.{skips, starts, empty, first, canBegin, canSkip}
+use Rattle.grammar.specs.First.{skips, starts, anyOf, empty, first, canBegin, canSkip}
 
 pub record Hints : Type 0 where
   -- whether a token of a class may follow a nonterminal
@@ -176,11 +177,27 @@ makesRow k noRow = false
 unfoldable pub tops : ℕ → ℕ → Production → Bool
 tops x k p = implies (eqb (p .left) x) (makesRow k (p .makes))
 
--- a production that takes a level is not chosen at the end of the tokens, unless it is one of the start x
-unfoldable pub beforeEnd : List Production → ℕ → Production → Bool
-beforeEnd g x p =
-    let chosen = or (canBegin g endOfTokens p) (canSkip g endOfTokens p) in
-    or (eqb (p .left) x) (implies (ltb 0 (levels (p .makes))) (agrees false chosen))
+-- whether symbols take a token of class c first, given which nonterminals do; so they do where nothing but its class is asked of it
+unfoldable pub takesFirst : ℕ → (ℕ → Bool) → List Symbol → Bool
+takesFirst c first [] = false
+takesFirst c first (token cs ∷ ss) = among cs c
+takesFirst c first (derived x ∷ ss) = first x
+takesFirst c first (condition b (next cs) ∷ ss) =
+    let rest = takesFirst c first ss in
+    and (agrees b (among cs c)) rest
+takesFirst c first (condition b (query q) ∷ ss) = false
+
+-- whether some production of a nonterminal does, looking through at most so many nonterminals
+unfoldable pub firstTaken : List Production → ℕ → ℕ → ℕ → Bool
+firstTaken g zero c x = false
+firstTaken g (suc d) c x = anyOf x (takesFirst c (firstTaken g d c)) g
+
+-- a production that takes a level, where it is chosen at class c, takes that token, unless it is one of the start x
+unfoldable pub rowBegins : List Production → ℕ → ℕ → Production → Bool
+rowBegins g x c p =
+    let chosen = or (canBegin g c p) (canSkip g c p) in
+    let taken = takesFirst c (firstTaken g (length g) c) (p .right) in
+    or (eqb (p .left) x) (implies (ltb 0 (levels (p .makes))) (implies chosen taken))
 
 -- symbols among which a nonterminal does not stand
 unfoldable pub without : ℕ → List Symbol → Bool
@@ -200,6 +217,6 @@ pub record Passes (g : List Production) (h : Hints) (bound x : ℕ) : Type 0 whe
   pub once : h .more x ≤ 1
   pub kinds : every (knownKind h (h .lastKind)) g ≡ true
   pub top : every (tops x (h .topKind)) g ≡ true
-  pub early : every (beforeEnd g x) g ≡ true
+  pub begun : below (λ (c : ℕ). every (rowBegins g x c) g) bound ≡ true
   -- the start stands on no right side
   pub apart : every (λ (p : Production). without x (p .right)) g ≡ true

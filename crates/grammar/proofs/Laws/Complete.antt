@@ -31,7 +31,7 @@ unfolding onward
 agrees-onward rest same a = a
 agrees-onward rest short a = short
 
-descend-below : (l n m i : ℕ) (below : ℕ → Outcome) → n ≡ l + m → descend l n i below ≡ below m
+pub descend-below : (l n m i : ℕ) (below : ℕ → Outcome) → n ≡ l + m → descend l n i below ≡ below m
 unfolding descend
 descend-below zero n m i below h = rw h (rw zero-add refl)
 descend-below (suc l) zero m i below h = absurd (omega arith)
@@ -39,7 +39,7 @@ descend-below (suc l) (suc n) m i below h = descend-below l n m i below (omega a
 
 module _ (g : List Production) (v : View) (h : Hints) (bound : ℕ) (good : Closed g h bound) (steady : Steady v h bound) where
   -- the production that a derivation uses is the one that the reading takes
-  taken-choice : {e : Names} {n i j said : ℕ} {rows : List Row} (x : ℕ) (p : Production) → Has g p → p .left ≡ x
+  pub taken-choice : {e : Names} {n i j said : ℕ} {rows : List Row} (x : ℕ) (p : Production) → Has g p → p .left ≡ x
       → Derives g v e n (p .right) i j rows said → h .follow x (v .class e j) ≡ true → choice g v e x i ≡ selected p
   unfolding live may canBegin canSkip
   taken-choice {e = e} {i = i} x p has left d f =

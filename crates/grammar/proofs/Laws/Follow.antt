@@ -40,7 +40,7 @@ passed-at g h bound c t l = record {
 }
 
 -- less may follow
-may-less : (g : List Production) (c : ℕ) (a b : Bool) (ss : List Symbol) → implies a b ≡ true → may g c a ss ≡ true → may g c b ss ≡ true
+pub may-less : (g : List Production) (c : ℕ) (a b : Bool) (ss : List Symbol) → implies a b ≡ true → may g c a ss ≡ true → may g c b ss ≡ true
 unfolding may implies or and
 may-less g c true b ss h m = rw h m
 may-less g c false b ss h m = cases (starts c (first g c) (empty g c) ss) (skips c (empty g c) ss) m
@@ -55,7 +55,7 @@ unfolding implies
 implies-less true b c f h = implies-true b c h (f refl)
 implies-less false b c f h = refl
 
-flows-less : (g : List Production) (h : Hints) (c : ℕ) (a b : Bool) (ss : List Symbol) → implies a b ≡ true
+pub flows-less : (g : List Production) (h : Hints) (c : ℕ) (a b : Bool) (ss : List Symbol) → implies a b ≡ true
     → flows g h c b ss ≡ true → flows g h c a ss ≡ true
 unfolding flows
 flows-less g h c a b [] l f = refl
@@ -66,7 +66,7 @@ flows-less g h c a b (derived x ∷ ss) l f =
     and-both _ _ (implies-less (may g c a ss) (may g c b ss) (h .follow x c) (may-less g c a b ss l) now) (flows-less g h c a b ss l later)
 flows-less g h c a b (condition k q ∷ ss) l f = flows-less g h c a b ss l f
 
-allows-met : (v : View) (e : Names) (i : ℕ) (b : Bool) (q : Condition) → met v e i b q ≡ true → allows (v .class e i) b q ≡ true
+pub allows-met : (v : View) (e : Names) (i : ℕ) (b : Bool) (q : Condition) → met v e i b q ≡ true → allows (v .class e i) b q ≡ true
 unfolding met asked allows
 allows-met v e i b (next cs) h = h
 allows-met v e i b (query q) h = refl
@@ -115,7 +115,7 @@ module _ (g : List Production) (v : View) (h : Hints) (bound : ℕ) (good : Clos
       rw (← left) (every-has (followClosed g h c) g p (passed-at g h bound c good l .follows) has)
 
   -- a production that begins with a class, or is empty before it, gives a nonterminal that does
-  part-by : (p : Production) (x c : ℕ) (a : Bool) (ss : List Symbol) → c < bound → Has g p → p .left ≡ x
+  pub part-by : (p : Production) (x c : ℕ) (a : Bool) (ss : List Symbol) → c < bound → Has g p → p .left ≡ x
       → may g c (may g c a ss) (p .right) ≡ true → may g c a (derived x ∷ ss) ≡ true
   unfolding may starts skips firstClosed emptyClosed canBegin canSkip
   part-by p x c a ss l has left m =

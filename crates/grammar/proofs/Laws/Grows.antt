@@ -23,6 +23,9 @@ pub data Grows : Way → Outcome → Outcome → Type 0 where
   from-spent : {o : Outcome} → Grows byFuel spent o
   from-deep : {i : ℕ} {o : Outcome} → Grows byLevels (deep i) o
 
+pub grows-ok : {w : Way} {j said : ℕ} {rows : List Row} {p : Outcome} → Grows w (ok j rows said) p → p ≡ ok j rows said
+grows-ok same = refl
+
 pub grows-stuck : {w : Way} {i : ℕ} {p : Outcome} → Grows w (stuck i) p → p ≡ stuck i
 grows-stuck same = refl
 

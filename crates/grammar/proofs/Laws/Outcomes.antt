@@ -37,6 +37,14 @@ module _ {P : ℕ → List Row → ℕ → Type 0} {K D : ℕ → Type 0} {S : T
   ends-over (atDeep d) f = atDeep d
   ends-over (out s) f = out s
 
+  pub ends-each : {Q : ℕ → List Row → ℕ → Type 0} {L E : ℕ → Type 0} {o : Outcome} → Ends P K D S o
+      → ((j : ℕ) (rows : List Row) (said : ℕ) → P j rows said → Q j rows said) → ((i : ℕ) → K i → L i) → ((i : ℕ) → D i → E i)
+      → Ends Q L E S o
+  ends-each (upTo {j = j} {said = said} {rows = rows} a) f s t = upTo (f j rows said a)
+  ends-each (atStuck {i = i} k) f s t = atStuck (s i k)
+  ends-each (atDeep {i = i} d) f s t = atDeep (t i d)
+  ends-each (out u) f s t = out u
+
   pub ends-both : {Q : ℕ → List Row → ℕ → Type 0} {L E : ℕ → Type 0} {T : Type 0} {o : Outcome} → Ends P K D S o → Ends Q L E T o
       → Ends P K D T o
   ends-both (upTo a) r = upTo a

@@ -13,7 +13,7 @@ use Rattle.tree.specs.TreeTable.{Row}
 use Rattle.grammar.specs.Grammars.{endOfTokens, next, Symbol, derived, when, Production, Names, View, agrees, asked, met}
 use Rattle.grammar.specs.Derivations.{Derives, end, taken, held, entered, Derivation, derivation}
 use Rattle.grammar.specs.First.{allows, skips, starts}
-use Rattle.grammar.specs.Reading.{Outcome, ok, stuck, deep, spent, breadth, whole, readWithin, reading}
+use Rattle.grammar.specs.Reading.{Outcome, ok, stuck, spent, breadth, whole, readWithin, reading}
 use Rattle.grammar.proofs.Laws.Checks.{Hints, noEnd, implies, every, may, flows, falls, Passes}
 use Rattle.grammar.proofs.Laws.CheckLaws.{and-both, implies-by, every-has}
 use Rattle.grammar.proofs.Laws.Follow.{Steady, Flows}
@@ -58,16 +58,22 @@ of-whole : {g : List Production} {v : View} {e : Names} {n x j said : ℕ} {rows
     → (Derives g v e n (derived x ∷ []) 0 j rows said) × (v .class e j ≡ endOfTokens)
 of-whole {v = v} {e = e} {j = j} (entered has of fits inner (held t end)) = (entered has of fits inner end, ended-at v e j t)
 
+-- a token that is taken is one of the tokens
+pub takes-inside : (v : View) (count : ℕ) → Counted v count → (e : Names) (i : ℕ) (cs : List ℕ) → agrees false (among cs endOfTokens) ≡ true
+    → among cs (v .class e i) ≡ true → i < count
+takes-inside v count tokens e i cs a t =
+    let inside : ¬ (count ≤ i) = λ (z : count ≤ i). not-end cs (v .class e i) a t (tokens .past e i z) in
+    omega arith
+
 -- no derivation goes past the last token
 module _ (g : List Production) (v : View) (h : Hints) (w count : ℕ) (falling : every (falls h w) g ≡ true) (tokens : Counted v count) where
-  derives-within : {e : Names} {n i j said : ℕ} {ss : List Symbol} {rows : List Row} → Derives g v e n ss i j rows said
+  pub derives-within : {e : Names} {n i j said : ℕ} {ss : List Symbol} {rows : List Row} → Derives g v e n ss i j rows said
       → noEnd ss ≡ true → i ≤ count → j ≤ count
   unfolding noEnd
   derives-within end a l = l
   derives-within (taken {e = e} {i = i} {cs = cs} {ss = ss} t d) a l =
-      let inside : ¬ (count ≤ i) = λ (z : count ≤ i).
-      not-end cs (v .class e i) (and-left (agrees false (among cs 0)) (noEnd ss) a) t (tokens .past e i z) in
-      derives-within d (and-right (agrees false (among cs 0)) (noEnd ss) a) (omega arith)
+      derives-within d (and-right (agrees false (among cs endOfTokens)) (noEnd ss) a)
+      (takes-inside v count tokens e i cs (and-left (agrees false (among cs endOfTokens)) (noEnd ss) a) t)
   derives-within (held t d) a l = derives-within d a l
   derives-within (entered {p = p} has of fits inner rest) a l =
       let right = falls-of h w p (every-has (falls h w) g p falling has) .no-end in
@@ -88,7 +94,7 @@ module _ (g : List Production) (h : Hints) (bound x : ℕ) (tests : Passes g h b
       (all, derivation (subst (λ (k : ℕ). Derives g v e n (derived x ∷ []) 0 k rows said) all d))
 
   -- what comes after the start may follow it
-  start-flows : Flows g v h bound (tests .closed) steady (λ (c : ℕ). true) (whole x)
+  pub start-flows : Flows g v h bound (tests .closed) steady (λ (c : ℕ). true) (whole x)
   unfolding flows
   start-flows c l =
       and-both (implies (may g c true (when (next (endOfTokens ∷ [])) ∷ [])) (h .follow x c)) true
@@ -134,13 +140,6 @@ module _ (g : List Production) (h : Hints) (bound x : ℕ) (tests : Passes g h b
   stuck-none n i m rows r (derivation {said = said} d) =
       let all = reading-complete (max n m) said rows (derives-wider g v (max n m) (omega arith) d) in
       let still = grows-stuck (rw r at (reading-grows n (max n m) (omega arith))) in
-      let z : _≡_ {A = ℕ} 0 1 = cc in
-      absurd (omega arith)
-
-  -- Too deep: there is none within the levels.
-  pub deep-none : (n i : ℕ) (rows : List Row) → reading g v count e n x ≡ deep i → Derivation g v count e n x rows → ⊥
-  deep-none n i rows r (derivation {said = said} d) =
-      let all = reading-complete n said rows d in
       let z : _≡_ {A = ℕ} 0 1 = cc in
       absurd (omega arith)
 

@@ -15,17 +15,18 @@ use Rattle.grammar.specs.Derivations.{Derives, derivation}
 use Rattle.grammar.specs.Forests.{Forest}
 use Rattle.grammar.specs.Reading.{Outcome, ok, stuck, deep, spent, whole, readWithin}
 use Rattle.grammar.specs.Languages.{Language, view}
-use Rattle.grammar.specs.Sources.{namesOf, viewOf, DerivationOf, readTokens}
+use Rattle.grammar.specs.Sources.{namesOf, viewOf, DerivationOf, NoProgramOf, TooDeepOf, readTokens}
 use Rattle.grammar.proofs.Laws.Checks.{Hints, Passes}
 use Rattle.grammar.proofs.Laws.Follow.{Steady}
 use Rattle.grammar.proofs.Laws.Grows.{Grows, byLevels}
 use Rattle.grammar.proofs.Laws.Takes.{from, allTaken, takes-once}
 use Rattle.grammar.proofs.Laws.KnownKinds.{KindsTo, kinds-known, Top, one-top}
 use Rattle.grammar.proofs.Laws.Readings.{Counted, reading-sound, reading-unspent, reading-complete, derivations-same, reading-from}
-use Rattle.grammar.proofs.Laws.Readings.{reading-grows, stuck-none as no-stuck, deep-none as no-deep, derivation-few}
+use Rattle.grammar.proofs.Laws.Readings.{reading-grows, derivation-few}
 use Rattle.grammar.proofs.Laws.Views.{classes, Kinds, items-length, items-kinds, view-counted}
 use Rattle.grammar.proofs.Laws.Forests.{forest as trees}
-use Rattle.grammar.proofs.Laws.Places.{stuck-at as stuck-place, deep-at as deep-place}
+use Rattle.grammar.proofs.Laws.Places.{stuck-no-program, deep-too-deep, no-program-stuck, too-deep-deep, no-program-within, too-deep-within}
+use Rattle.grammar.proofs.Laws.Places.{too-deep-none as none-within}
 
 -- what is asked of a language
 pub record Fit (l : Language) : Type 0 where
@@ -56,14 +57,17 @@ module _ (l : Language) (source names : List ℕ) (ts : List Token) where
         → (o ≡ spent → ⊥) → readTokens l n source names ts ≡ o
     -- More levels never change an ok or a stuck.
     pub grows : (n m : ℕ) → n ≤ m → Grows byLevels (readTokens l n source names ts) (readTokens l m source names ts)
-    -- Stuck: there is no derivation at any depth.
-    pub stuck-none : (n i m : ℕ) (rs : List Row) → readTokens l n source names ts ≡ stuck i → DerivationOf l source names ts m rs → ⊥
-    -- Too deep: there is none within the levels.
-    pub deep-none : (n i : ℕ) (rs : List Row) → readTokens l n source names ts ≡ deep i → DerivationOf l source names ts n rs → ⊥
-    -- Stuck is at a token or at the end of the tokens.
-    pub stuck-at : (n i : ℕ) → readTokens l n source names ts ≡ stuck i → i ≤ length ts
-    -- Too deep, where there is a level at all, is at a token.
-    pub deep-at : (n i : ℕ) → 1 ≤ n → readTokens l n source names ts ≡ deep i → i < length ts
+    -- Stuck is where there is no program, and, where there is a level at all, nowhere else.
+    pub no-program : (n place : ℕ) → readTokens l n source names ts ≡ stuck place → NoProgramOf l source names ts n place
+    pub no-program-read : (n place : ℕ) → 1 ≤ n → NoProgramOf l source names ts n place → readTokens l n source names ts ≡ stuck place
+    -- Too deep, where there is a level at all, is where partial derivations are, and nowhere else.
+    pub too-deep : (n place : ℕ) → 1 ≤ n → readTokens l n source names ts ≡ deep place → TooDeepOf l source names ts n place
+    pub too-deep-read : (n place : ℕ) → TooDeepOf l source names ts n place → readTokens l n source names ts ≡ deep place
+    -- Then there is no derivation within the levels.
+    pub too-deep-none : (n place : ℕ) (rs : List Row) → TooDeepOf l source names ts n place → DerivationOf l source names ts n rs → ⊥
+    -- "6: token index, or the token count at the end"; "7: token index".
+    pub no-program-at : (n place : ℕ) → NoProgramOf l source names ts n place → place ≤ length ts
+    pub too-deep-at : (n place : ℕ) → TooDeepOf l source names ts n place → place < length ts
     -- 5. The explicit fuel suffices: every token list gets ok, stuck or too deep.
     pub unspent : (n : ℕ) → readTokens l n source names ts ≡ spent → ⊥
     -- 6. A derivation takes each token once and in order.
@@ -114,10 +118,13 @@ module _ (l : Language) (fit : Fit l) (source names : List ℕ) (ts : List Token
     unique = derivations-same g h classes x (fit .tests) v (length ts) steady counted _;
     read-from = reading-from g h classes x (fit .tests) v (length ts) steady counted _;
     grows = reading-grows g h classes x (fit .tests) v (length ts) steady counted _;
-    stuck-none = no-stuck g h classes x (fit .tests) v (length ts) steady counted _;
-    deep-none = no-deep g h classes x (fit .tests) v (length ts) steady counted _;
-    stuck-at = stuck-place g h classes x (fit .tests) v (length ts) counted _;
-    deep-at = deep-place g h classes x (fit .tests) v (length ts) counted _;
+    no-program = stuck-no-program g h classes x (fit .tests) v (length ts) steady counted _;
+    no-program-read = no-program-stuck g h classes x (fit .tests) v (length ts) steady counted _;
+    too-deep = deep-too-deep g h classes x (fit .tests) v (length ts) steady counted _;
+    too-deep-read = too-deep-deep g h classes x (fit .tests) v (length ts) steady counted _;
+    too-deep-none = none-within g h classes x (fit .tests) v (length ts) steady counted _;
+    no-program-at = no-program-within g h classes x (fit .tests) v (length ts) steady counted _;
+    too-deep-at = too-deep-within g h classes x (fit .tests) v (length ts) steady counted _;
     unspent = reading-unspent g h classes x (fit .tests) v (length ts) steady counted _;
     takes = λ n rs d. takes-once d;
     few = derivation-few g h classes x (fit .tests) v (length ts) steady counted _;

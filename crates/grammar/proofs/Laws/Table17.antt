@@ -27,7 +27,8 @@ use Rattle.grammar.specs.Nurl.{productions}
 use Rattle.grammar.specs.Languages.{language17, view}
 use Rattle.grammar.proofs.Laws.Checks.{Hints, implies, every, may, firstClosed, emptyClosed, flows, followClosed, live, asks}
 use Rattle.grammar.proofs.Laws.Checks.{opposed, excludes, exclusive, below, noEnd, vanishes, needs, bounded, falls, fewerOf}
-use Rattle.grammar.proofs.Laws.Checks.{moreOf, fewRows, voiced, kindWithin, knownKind, makesRow, tops, Passes, beforeEnd, without}
+use Rattle.grammar.proofs.Laws.Checks.{moreOf, fewRows, voiced, kindWithin, knownKind, makesRow, tops, Passes, takesFirst}
+use Rattle.grammar.proofs.Laws.Checks.{firstTaken, rowBegins, without}
 use Rattle.grammar.proofs.Laws.Follow.{Steady}
 use Rattle.grammar.proofs.Laws.Views.{classes, Kinds, class-below}
 
@@ -155,11 +156,11 @@ tops17 : every (tops program (hints17 .topKind)) productions ≡ true
 unfolding and productions implies every makesRow tops hints17
 tops17 = refl
 
--- a row but the program's calls for a token
-early17 : every (beforeEnd productions program) productions ≡ true
+-- a row but the program's takes the token that it is chosen at
+begun17 : below (λ (c : ℕ). every (rowBegins productions program c) productions) classes ≡ true
 unfolding and or among agrees allows skips starts anyOf emptyWithin firstWithin empty first canBegin canSkip levels productions
-    implies every beforeEnd
-early17 = refl
+    implies every below takesFirst firstTaken rowBegins
+begun17 = refl
 
 -- no production derives a program
 apart17 : every (λ (p : Production). without program (p .right)) productions ≡ true
@@ -177,7 +178,7 @@ passes17 = record {
   once = omega arith;
   kinds = knownKinds17;
   top = tops17;
-  early = early17;
+  begun = begun17;
   apart = apart17;
 }
 
