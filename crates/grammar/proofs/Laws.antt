@@ -13,6 +13,7 @@ pub mod Takes
 pub mod Forests
 pub mod Readings
 pub mod Reaches
+pub mod Opens
 pub mod Beyond
 pub mod Places
 pub mod Views
