@@ -5,7 +5,8 @@ use mathlib.Core.Path.{_≡_}
 use mathlib.Core.List.{List}
 use Rattle.grammar.specs.Languages.{language17}
 use Rattle.grammar.proofs.Laws.Nurl17.{fit17}
-use Rattle.answer.specs.Answers.{levelLimit, answer17}
+use Rattle.answer.specs.executable.Answers.{answer17}
+use Rattle.answer.specs.Results.{levelLimit}
 use Rattle.answer.specs.Demands.{Reader, MeetsDemands}
 use Rattle.answer.proofs.Laws.Answers.{answered-demands, demands-answered}
 

@@ -11,10 +11,11 @@ use Rattle.typenames.specs.NameList.{checked}
 use Rattle.typenames.specs.declared.Checked.{Checked}
 use Rattle.typenames.specs.declared.Checked.the-variants.{Good}
 use Rattle.tree.specs.TreeTable.{Row, treeRoom, placed, cleared}
-use Rattle.grammar.specs.Reading.{stuck, deep}
+use Rattle.grammar.specs.executable.Reading.{stuck, deep}
 use Rattle.grammar.specs.Languages.{Language, language17}
-use Rattle.grammar.specs.Sources.{DerivationOf, readTokens}
-use Rattle.answer.specs.Answers.{levelLimit, Result}
+use Rattle.grammar.specs.Sources.{DerivationOf}
+use Rattle.grammar.specs.executable.ReadTokens.{readTokens}
+use Rattle.answer.specs.Results.{levelLimit, Result}
 use Rattle.answer.specs.declared.Answer.the-variants.{Accepted, Refused}
 
 -- for a language, a source and a list of names

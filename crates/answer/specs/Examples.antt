@@ -11,7 +11,7 @@ use Rattle.lexer.specs.Examples.{tokenFrom}
 use Rattle.lexer.specs.Table.{filled}
 use Rattle.tree.specs.RowKinds.{rowKind}
 use Rattle.tree.specs.TreeTable.{Row, placed, cleared}
-use Rattle.answer.specs.Answers.{Result}
+use Rattle.answer.specs.Results.{Result}
 use Rattle.answer.specs.declared.Answer.the-variants.{Accepted, Refused}
 
 -- what is to come of a source

@@ -1,4 +1,5 @@
--- The answer for any source, what is demanded of it, and the examples of document 01.
-pub mod Answers
+-- What a reader gives, what is demanded of it, and the examples of document 01.
+pub mod Results
 pub mod Demands
 pub mod Examples
+pub mod executable

@@ -4,12 +4,11 @@ pub mod Rows
 pub mod Derivations
 pub mod Reaches
 pub mod Forests
-pub mod First
-pub mod Reading
 pub mod Nonterminals
 pub mod Classes
 pub mod Questions
 pub mod Nurl
 pub mod Languages
 pub mod Sources
+pub mod executable
 pub mod internal

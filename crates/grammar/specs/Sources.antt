@@ -1,5 +1,5 @@
--- The tokens of a source under a list of names: the names in force, what the grammar asks of the tokens, their derivations, the
--- places of refusals 6 and 7, and their leftmost reading.
+-- The tokens of a source under a list of names: the names in force, what the grammar asks of the tokens, their derivations, and
+-- the places of refusals 6 and 7.
 use Prim.Native.Nat.{ℕ}
 use mathlib.Core.List.{List}
 use lib.ListN.{length}
@@ -11,7 +11,6 @@ use Rattle.tree.specs.TreeTable.{Row}
 use Rattle.grammar.specs.Grammars.{Names, View}
 use Rattle.grammar.specs.Derivations.{Derivation}
 use Rattle.grammar.specs.Reaches.{NoProgram, TooDeep}
-use Rattle.grammar.specs.Reading.{Outcome, reading}
 use Rattle.grammar.specs.Languages.{Language, view}
 
 -- "the type names of that source and list": the set N
@@ -23,18 +22,11 @@ viewOf l source ts = view l (items source ts)
 
 -- "A derivation of a token list": of the tokens ts of the source, nested at most n levels, with these rows
 abbrev pub DerivationOf : Language → List ℕ → List ℕ → List Token → ℕ → List Row → Type 0
-DerivationOf l source names ts n rows =
-    Derivation (l .productions) (viewOf l source ts) (length ts) (namesOf l source names ts) n (l .start) rows
+DerivationOf l source names ts n = Derivation (l .productions) (viewOf l source ts) (length ts) (namesOf l source names ts) n (l .start)
 
--- 6 and 7 at a place of the tokens, with a limit of n levels
+-- 6 and 7 at a place of the tokens, with a limit of so many levels
 abbrev pub NoProgramOf : Language → List ℕ → List ℕ → List Token → ℕ → ℕ → Type 0
-NoProgramOf l source names ts n place =
-    NoProgram (l .productions) (viewOf l source ts) (length ts) (namesOf l source names ts) (l .start) n place
+NoProgramOf l source names ts = NoProgram (l .productions) (viewOf l source ts) (length ts) (namesOf l source names ts) (l .start)
 
 abbrev pub TooDeepOf : Language → List ℕ → List ℕ → List Token → ℕ → ℕ → Type 0
-TooDeepOf l source names ts n place =
-    TooDeep (l .productions) (viewOf l source ts) (length ts) (namesOf l source names ts) (l .start) n place
-
--- the leftmost reading of the tokens, with n levels
-unfoldable pub readTokens : Language → ℕ → List ℕ → List ℕ → List Token → Outcome
-readTokens l n source names ts = reading (l .productions) (viewOf l source ts) (length ts) (namesOf l source names ts) n (l .start)
+TooDeepOf l source names ts = TooDeep (l .productions) (viewOf l source ts) (length ts) (namesOf l source names ts) (l .start)

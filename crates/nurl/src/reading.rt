@@ -16,7 +16,8 @@ ghost use Rattle.lexer.specs.internal.TokenRows.{rowsOf};
 ghost use Rattle.typenames.specs.NameList.{nameLimit};
 ghost use Rattle.typenames.specs.internal.Prepared.{slots};
 ghost use Rattle.grammar.specs.Languages.{language17};
-ghost use Rattle.answer.specs.Answers.{levelLimit, values, Result, answer17, answerValues};
+ghost use Rattle.answer.specs.executable.Answers.{answer17, answerValues};
+ghost use Rattle.answer.specs.Results.{levelLimit, values, Result};
 ghost use Rattle.answer.specs.Demands.{Demands};
 ghost use Rattle.nurl.specs.internal.Results.{treeResult};
 

@@ -8,7 +8,8 @@ use Rattle.lexer.specs.Refusals.{refusalNumber}
 use Rattle.lexer.specs.Tests.{pick}
 use Rattle.lexer.specs.Table.{tokenWidth}
 use Rattle.tree.specs.TreeTable.{treeWidth}
-use Rattle.answer.specs.Answers.{Result, answer17}
+use Rattle.answer.specs.executable.Answers.{answer17}
+use Rattle.answer.specs.Results.{Result}
 use Rattle.answer.specs.declared.Answer.the-variants.{Refused}
 use Rattle.nurl.specs.Texts.{answerText}
 

@@ -20,12 +20,14 @@ use Rattle.typenames.specs.declared.Checked.{Checked}
 use Rattle.typenames.specs.declared.Checked.the-variants.{Good}
 use Rattle.typenames.proofs.Laws.Entries.{checked-two}
 use Rattle.tree.specs.TreeTable.{Row, treeRoom, placed, cleared}
-use Rattle.grammar.specs.Reading.{Outcome, ok, stuck, deep, spent}
+use Rattle.grammar.specs.executable.Reading.{Outcome, ok, stuck, deep, spent}
 use Rattle.grammar.specs.Languages.{Language}
-use Rattle.grammar.specs.Sources.{DerivationOf, readTokens}
+use Rattle.grammar.specs.Sources.{DerivationOf}
+use Rattle.grammar.specs.executable.ReadTokens.{readTokens}
 use Rattle.grammar.proofs.Laws.Sources.{Fit, ReadAs, read-as, theorems}
-use Rattle.answer.specs.Answers.{Verdict, early, late, accept, judged, scannedTokens, checkedNames, verdict, Result, result}
-use Rattle.answer.specs.Answers.{answered}
+use Rattle.answer.specs.executable.Answers.{Verdict, early, late, accept, judged, scannedTokens, checkedNames, verdict, result}
+use Rattle.answer.specs.Results.{Result}
+use Rattle.answer.specs.executable.Answers.{answered}
 use Rattle.answer.specs.Demands.{Admitted, Readable, Room, Refusal, too-long, bad-names, bad-byte, open-string, few-token-rows}
 use Rattle.answer.specs.Demands.{no-program, too-deep, few-tree-rows, Acceptance, Demands}
 use Rattle.answer.specs.declared.Answer.the-variants.{Accepted, Refused}

@@ -5,7 +5,8 @@ use Rattle.lexer.specs.Table.{tokenRow, tokenRows, filled}
 use Rattle.typenames.specs.NameList.{isIdent, isName, firstBad, checked}
 use Rattle.tree.specs.TreeTable.{treeRows, placed, cleared}
 use Rattle.grammar.proofs.Laws.Lists17.{readsTo}
-use Rattle.answer.specs.Answers.{judged, scannedTokens, checkedNames, verdict, Result, result, answered, answer17}
+use Rattle.answer.specs.executable.Answers.{judged, scannedTokens, checkedNames, verdict, result, answered, answer17}
+use Rattle.answer.specs.Results.{Result}
 use Rattle.answer.specs.Examples.{lentTokens, lentRows, Example, resultOf, examples}
 
 -- the answer, opened down to its parts: whoever computes with it unfolds this one name

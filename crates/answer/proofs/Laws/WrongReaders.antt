@@ -15,7 +15,8 @@ use Rattle.lexer.proofs.Laws.Scans.{found-once}
 use Rattle.tree.specs.internal.RowKinds.{functionRow}
 use Rattle.tree.specs.TreeTable.{treeWidth, placed, cleared}
 use Rattle.grammar.specs.Languages.{language17}
-use Rattle.answer.specs.Answers.{levelLimit, Result, answer17}
+use Rattle.answer.specs.executable.Answers.{answer17}
+use Rattle.answer.specs.Results.{levelLimit, Result}
 use Rattle.answer.specs.Demands.{Acceptance, Reader, MeetsDemands}
 use Rattle.answer.specs.Examples.{node, lentTokens, lentRows}
 use Rattle.answer.specs.declared.Answer.{Answer}

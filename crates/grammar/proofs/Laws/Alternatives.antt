@@ -14,12 +14,11 @@ use Rattle.lexer.specs.Items.{Item}
 use Rattle.lexer.proofs.Laws.Tests.{and-left, and-right}
 use Rattle.typenames.specs.TypeNames.{isNamed}
 use Rattle.grammar.specs.Grammars.{next, query, Symbol, token, derived, condition, Production, Names, View, agrees, asked, met}
-use Rattle.grammar.specs.First.{canBegin, canSkip}
-use Rattle.grammar.specs.Reading.{ready, Choice, none, selected, find, otherwise, choice}
+use Rattle.grammar.specs.executable.First.{canBegin, canSkip}
+use Rattle.grammar.specs.executable.Reading.{ready, Choice, none, selected, find, otherwise, choice}
 use Rattle.grammar.specs.Classes.{typeName}
 use Rattle.grammar.specs.Languages.{classOf}
-use Rattle.grammar.specs.internal.Alternatives.{shown, alternativeNumber, numberElse, alternative, nth, kindOfClass}
-use Rattle.grammar.specs.internal.Alternatives.{kindAlternative}
+use Rattle.grammar.specs.internal.Alternatives.{shown, alternativeNumber, numberElse, alternative, nth, kindOfClass, kindAlternative}
 use Rattle.grammar.proofs.Laws.Checks.{implies, every}
 
 -- the conditions at the front ask only questions that pass a test

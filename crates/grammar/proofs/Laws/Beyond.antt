@@ -16,8 +16,8 @@ use Rattle.grammar.specs.Grammars.{Condition, Makes, givesRow, rowOf, gi
 use Rattle.grammar.specs.Rows.{levels}
 use Rattle.grammar.specs.Derivations.{Has, here, there, Derives, end, taken, held, entered}
 use Rattle.grammar.specs.Reaches.{Reaches, stops, takes, meets, enters, leaves}
-use Rattle.grammar.specs.First.{anyOf, canBegin, canSkip}
-use Rattle.grammar.specs.Reading.{Outcome, deep, selected, choice, joined, readWithin, whole}
+use Rattle.grammar.specs.executable.First.{anyOf, canBegin, canSkip}
+use Rattle.grammar.specs.executable.Reading.{Outcome, deep, selected, choice, joined, readWithin, whole}
 use Rattle.grammar.proofs.Laws.Checks.{Hints, implies, every, takesFirst, firstTaken, rowBegins, without, Passes}
 use Rattle.grammar.proofs.Laws.CheckLaws.{implies-true, every-has, below-at}
 use Rattle.grammar.proofs.Laws.Choices.{chosen, chosen-passes}

@@ -11,8 +11,8 @@ use Rattle.lexer.specs.Tests.{and, or, between, pick, among}
 use Rattle.grammar.specs.Grammars.{endOfTokens, next, query, Symbol, token, derived, condition, Makes, givesRow, rowOf, givesKind}
 use Rattle.grammar.specs.Grammars.{noRow, Production, agrees}
 use Rattle.grammar.specs.Rows.{levels}
-use Rattle.grammar.specs.Reading.{breadth, whole}
-use Rattle.grammar.specs.First.{skips, starts, anyOf, empty, first, canBegin, canSkip}
+use Rattle.grammar.specs.executable.Reading.{breadth, whole}
+use Rattle.grammar.specs.executable.First.{skips, starts, anyOf, empty, first, canBegin, canSkip}
 
 pub record Hints : Type 0 where
   -- whether a token of a class may follow a nonterminal

@@ -11,8 +11,8 @@ use Rattle.lexer.specs.Tests.{and, or, pick, among}
 use Rattle.lexer.proofs.Laws.Tests.{and-left, and-right, or-else, or-left, or-right}
 use Rattle.grammar.specs.Grammars.{next, query, Symbol, token, derived, condition, Production, Names, View, agrees, asked, met}
 use Rattle.grammar.specs.Derivations.{Has, here, there}
-use Rattle.grammar.specs.First.{canBegin, canSkip}
-use Rattle.grammar.specs.Reading.{ready, Choice, none, selected, find, otherwise, choice}
+use Rattle.grammar.specs.executable.First.{canBegin, canSkip}
+use Rattle.grammar.specs.executable.Reading.{ready, Choice, none, selected, find, otherwise, choice}
 use Rattle.grammar.proofs.Laws.Checks.{Hints, implies, every, live, asks, opposed, excludes, exclusive}
 use Rattle.grammar.proofs.Laws.CheckLaws.{and-both, implies-true, every-has}
 

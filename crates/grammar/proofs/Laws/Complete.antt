@@ -10,8 +10,8 @@ use Rattle.tree.specs.TreeTable.{Row}
 use Rattle.grammar.specs.Grammars.{Symbol, token, derived, condition, Production, Names, View}
 use Rattle.grammar.specs.Rows.{levels}
 use Rattle.grammar.specs.Derivations.{Has, Derives, end, taken, held, entered}
-use Rattle.grammar.specs.First.{canBegin, canSkip}
-use Rattle.grammar.specs.Reading.{Outcome, ok, spent, selected, choice, onward, descend, enter, joined, readWithin}
+use Rattle.grammar.specs.executable.First.{canBegin, canSkip}
+use Rattle.grammar.specs.executable.Reading.{Outcome, ok, spent, selected, choice, onward, descend, enter, joined, readWithin}
 use Rattle.grammar.proofs.Laws.Checks.{Hints, may, live, Closed}
 use Rattle.grammar.proofs.Laws.Choices.{choice-is}
 use Rattle.grammar.proofs.Laws.Follow.{Steady, passed-at, derives-ready, Flows, flows-rest, flows-right, may-begin, part-followed}

@@ -11,8 +11,8 @@ use Rattle.lexer.proofs.Laws.Tests.{and-left, and-right, or-else, or-left}
 use Rattle.tree.specs.TreeTable.{Row}
 use Rattle.grammar.specs.Grammars.{Condition, next, query, Symbol, token, derived, condition, Production, Names, View, asked, met}
 use Rattle.grammar.specs.Derivations.{Has, Derives, end, taken, held, entered}
-use Rattle.grammar.specs.First.{allows, skips, starts, empty, first, canBegin, canSkip}
-use Rattle.grammar.specs.Reading.{ready}
+use Rattle.grammar.specs.executable.First.{allows, skips, starts, empty, first, canBegin, canSkip}
+use Rattle.grammar.specs.executable.Reading.{ready}
 use Rattle.grammar.proofs.Laws.Checks.{Hints, implies, every, may, firstClosed, emptyClosed, flows, followClosed, exclusive}
 use Rattle.grammar.proofs.Laws.Checks.{Closed}
 use Rattle.grammar.proofs.Laws.CheckLaws.{and-both, implies-true, every-has, below-at}

@@ -12,7 +12,7 @@ use Rattle.lexer.proofs.Laws.Tests.{and-left, and-right}
 use Rattle.tree.specs.TreeTable.{Row}
 use Rattle.grammar.specs.Grammars.{Condition, Symbol, token, derived, condition, Production, Names, View, agrees, met}
 use Rattle.grammar.specs.Rows.{levels}
-use Rattle.grammar.specs.Reading.{Outcome, spent, selected, choice, joined, readWithin, breadth, whole, reading}
+use Rattle.grammar.specs.executable.Reading.{Outcome, spent, selected, choice, joined, readWithin, breadth, whole, reading}
 use Rattle.grammar.proofs.Laws.CheckLaws.{and-else, implies-false, every-has}
 use Rattle.grammar.proofs.Laws.Choices.{chosen}
 use Rattle.grammar.proofs.Laws.Outcomes.{Ends, Anywhere, upTo, out, ends-spent, ends-over, ends-both, ends-pick, ends-onward}

@@ -9,8 +9,8 @@ use lib.Dec.{eqb}
 use lib.ListN.{length, getD}
 use Rattle.lexer.specs.Tests.{and, or, pick}
 use Rattle.grammar.specs.Grammars.{Symbol, Production, Names, View}
-use Rattle.grammar.specs.First.{skips, starts, anyOf, emptyWithin, firstWithin, empty, first, canBegin, canSkip}
-use Rattle.grammar.specs.Reading.{ready}
+use Rattle.grammar.specs.executable.First.{skips, starts, anyOf, emptyWithin, firstWithin, empty, first, canBegin, canSkip}
+use Rattle.grammar.specs.executable.Reading.{ready}
 use Rattle.grammar.specs.internal.Alternatives.{shown, alternativeNumber, numberElse, alternative}
 
 -- the productions of x

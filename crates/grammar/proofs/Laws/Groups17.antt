@@ -27,8 +27,8 @@ use Rattle.grammar.specs.internal.Nonterminals.{loopOrComplement, expres
 use Rattle.grammar.specs.internal.Nonterminals.{wordList, moreWords, castRest, selector, arms, arm, payloads3, payloads2}
 use Rattle.grammar.specs.internal.Nonterminals.{payloads1, payload, types, type, parenthesized, structParameters}
 use Rattle.grammar.specs.internal.Classes.{name, declaredWord, anyWord, payloadToken, literals, operators}
-use Rattle.grammar.specs.First.{allows, skips, starts, anyOf}
-use Rattle.grammar.specs.Reading.{ready}
+use Rattle.grammar.specs.executable.First.{allows, skips, starts, anyOf}
+use Rattle.grammar.specs.executable.Reading.{ready}
 use Rattle.grammar.specs.Nurl.{anyName, plainName, productions}
 use Rattle.grammar.specs.internal.Productions.{kindToken, ruleOf, aTilde, aBrace, aStar, opensNames, opensWords, opensStruct}
 use Rattle.grammar.specs.internal.Productions.{twoNames, opensClosure, zeroOrOne, opensStructNames}

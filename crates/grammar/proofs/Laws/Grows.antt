@@ -10,8 +10,8 @@ use Rattle.tree.specs.TreeTable.{Row}
 use Rattle.grammar.specs.Grammars.{Symbol, token, derived, condition, Production, Names, View, met}
 use Rattle.grammar.specs.Rows.{levels}
 use Rattle.grammar.specs.Derivations.{Derives, end, taken, held, entered}
-use Rattle.grammar.specs.Reading.{Outcome, ok, stuck, deep, spent, Choice, none, selected, choice, onward, descend, enter, joined}
-use Rattle.grammar.specs.Reading.{readWithin}
+use Rattle.grammar.specs.executable.Reading.{Outcome, ok, stuck, deep, spent, Choice, none, selected, choice, onward, descend, enter}
+use Rattle.grammar.specs.executable.Reading.{joined, readWithin}
 
 pub data Way : Type 0 where
   byFuel : Way

@@ -16,13 +16,13 @@ use Rattle.typenames.specs.NameList.{push, split, entries}
 use Rattle.typenames.specs.TypeNames.{isNamed, enumName, structName, deeper, namesAt, declared, typeNames}
 use Rattle.grammar.specs.Grammars.{agrees, asked, met}
 use Rattle.grammar.specs.Rows.{made, passed, firstSaid, levels}
-use Rattle.grammar.specs.First.{allows, skips, starts, anyOf, emptyWithin, firstWithin, empty, first, canBegin, canSkip}
-use Rattle.grammar.specs.Reading.{Outcome, ok, stuck, deep, spent, ready, find, otherwise, choice, onward, descend, enter, joined}
-use Rattle.grammar.specs.Reading.{readWithin, breadth, reading}
+use Rattle.grammar.specs.executable.First.{allows, skips, starts, anyOf, emptyWithin, firstWithin, empty, first, canBegin, canSkip}
+use Rattle.grammar.specs.executable.Reading.{Outcome, ok, stuck, deep, spent, ready, find, otherwise, choice, onward, descend, enter, joined}
+use Rattle.grammar.specs.executable.Reading.{readWithin, breadth, reading}
 use Rattle.grammar.specs.Questions.{isText, runOf, fits, fitsOne, answerTo}
 use Rattle.grammar.specs.Nurl.{questions17, productions}
 use Rattle.grammar.specs.Languages.{language17, classOf, view}
-use Rattle.grammar.specs.Sources.{readTokens}
+use Rattle.grammar.specs.executable.ReadTokens.{readTokens}
 
 -- how many rows are read, or the token that cannot be taken
 pub data Finding : Type 0 where

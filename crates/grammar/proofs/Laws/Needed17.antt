@@ -11,7 +11,7 @@ use Rattle.lexer.specs.Tests.{and, or, pick, among}
 use Rattle.lexer.specs.Spellings.{same}
 use Rattle.lexer.specs.internal.Kinds.{ident, keyword, int, tilde, leftBrace, leftBracket, star}
 use Rattle.grammar.specs.Grammars.{Condition, next, query, Symbol, token, derived, condition, when, unless, Production, agrees}
-use Rattle.grammar.specs.First.{allows, skips, starts, anyOf, emptyWithin, firstWithin, empty, first, canBegin, canSkip}
+use Rattle.grammar.specs.executable.First.{allows, skips, starts, anyOf, emptyWithin, firstWithin, empty, first, canBegin, canSkip}
 use Rattle.grammar.specs.Classes.{typeName}
 use Rattle.grammar.specs.internal.Nonterminals.{definition, fieldName, variant, payloadTypes, typeParameters, statement, binding}
 use Rattle.grammar.specs.internal.Nonterminals.{tildeStatement, loopOrComplement, tryOrClosure, typeArguments, castRest, selector}

@@ -9,7 +9,7 @@ use Rattle.lexer.specs.Tests.{pick}
 use Rattle.tree.specs.TreeTable.{Row}
 use Rattle.grammar.specs.Grammars.{Production}
 use Rattle.grammar.specs.Rows.{levels}
-use Rattle.grammar.specs.Reading.{Outcome, ok, stuck, deep, spent, Choice, none, selected, onward, descend, enter}
+use Rattle.grammar.specs.executable.Reading.{Outcome, ok, stuck, deep, spent, Choice, none, selected, onward, descend, enter}
 
 pub data Ends (P : ℕ → List Row → ℕ → Type 0) (K D : ℕ → Type 0) (S : Type 0) : Outcome → Type 0 where
   upTo : {j said : ℕ} {rows : List Row} → P j rows said → Ends P K D S (ok j rows said)

@@ -12,7 +12,7 @@ use Rattle.tree.specs.TreeTable.{Row}
 use Rattle.grammar.specs.Grammars.{endOfTokens, Symbol, Production, Names, View, agrees}
 use Rattle.grammar.specs.Derivations.{Derives, Derivation, derivation}
 use Rattle.grammar.specs.Reaches.{Reaches, stops, takes, meets, enters, leaves, Reached, NoProgram, TooDeep}
-use Rattle.grammar.specs.Reading.{Outcome, ok, stuck, deep, spent, breadth, whole, reading}
+use Rattle.grammar.specs.executable.Reading.{Outcome, ok, stuck, deep, spent, breadth, whole, reading}
 use Rattle.grammar.proofs.Laws.Checks.{Hints, every, noEnd, falls, Passes}
 use Rattle.grammar.proofs.Laws.CheckLaws.{every-has}
 use Rattle.grammar.proofs.Laws.Follow.{Steady}

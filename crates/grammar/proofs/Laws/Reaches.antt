@@ -14,8 +14,8 @@ use Rattle.grammar.specs.Grammars.{Symbol, token, derived, condition, Pr
 use Rattle.grammar.specs.Rows.{levels}
 use Rattle.grammar.specs.Derivations.{Has, Derives, end, taken, held, entered}
 use Rattle.grammar.specs.Reaches.{Reaches, stops, takes, meets, enters, leaves}
-use Rattle.grammar.specs.First.{skips, starts, canBegin, canSkip}
-use Rattle.grammar.specs.Reading.{Outcome, selected, ready, choice, enter, joined, readWithin}
+use Rattle.grammar.specs.executable.First.{skips, starts, canBegin, canSkip}
+use Rattle.grammar.specs.executable.Reading.{Outcome, selected, ready, choice, enter, joined, readWithin}
 use Rattle.grammar.proofs.Laws.Checks.{Hints, implies, may, live, Closed}
 use Rattle.grammar.proofs.Laws.CheckLaws.{and-both, implies-true}
 use Rattle.grammar.proofs.Laws.Choices.{choice-is}

@@ -12,8 +12,8 @@ use Rattle.lexer.proofs.Laws.Tests.{and-left, and-right, or-else}
 use Rattle.tree.specs.TreeTable.{Row}
 use Rattle.grammar.specs.Grammars.{endOfTokens, next, Symbol, derived, when, Production, Names, View, agrees, asked, met}
 use Rattle.grammar.specs.Derivations.{Derives, end, taken, held, entered, Derivation, derivation}
-use Rattle.grammar.specs.First.{allows, skips, starts}
-use Rattle.grammar.specs.Reading.{Outcome, ok, stuck, spent, breadth, whole, readWithin, reading}
+use Rattle.grammar.specs.executable.First.{allows, skips, starts}
+use Rattle.grammar.specs.executable.Reading.{Outcome, ok, stuck, spent, breadth, whole, readWithin, reading}
 use Rattle.grammar.proofs.Laws.Checks.{Hints, noEnd, implies, every, may, flows, falls, Passes}
 use Rattle.grammar.proofs.Laws.CheckLaws.{and-both, implies-by, every-has}
 use Rattle.grammar.proofs.Laws.Follow.{Steady, Flows}

@@ -10,7 +10,7 @@ use Rattle.grammar.specs.Grammars.{Symbol, token, derived, condition, Pr
 use Rattle.grammar.specs.Rows.{levels}
 use Rattle.grammar.specs.Derivations.{Derives, end, taken, held, entered}
 use Rattle.grammar.specs.Reaches.{Reaches, stops, takes, meets, enters, leaves}
-use Rattle.grammar.specs.Reading.{ok, selected, choice, joined, readWithin}
+use Rattle.grammar.specs.executable.Reading.{ok, selected, choice, joined, readWithin}
 use Rattle.grammar.proofs.Laws.Choices.{chosen}
 use Rattle.grammar.proofs.Laws.Outcomes.{Ends, upTo, out, ends-ok, ends-each, ends-pick, ends-onward, ends-enter}
 

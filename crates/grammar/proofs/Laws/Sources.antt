@@ -13,9 +13,10 @@ use Rattle.tree.specs.TreeTable.{Row}
 use Rattle.grammar.specs.Grammars.{derived, Production, View}
 use Rattle.grammar.specs.Derivations.{Derives, derivation}
 use Rattle.grammar.specs.Forests.{Forest}
-use Rattle.grammar.specs.Reading.{Outcome, ok, stuck, deep, spent, whole, readWithin}
+use Rattle.grammar.specs.executable.Reading.{Outcome, ok, stuck, deep, spent, whole, readWithin}
 use Rattle.grammar.specs.Languages.{Language, view}
-use Rattle.grammar.specs.Sources.{namesOf, viewOf, DerivationOf, NoProgramOf, TooDeepOf, readTokens}
+use Rattle.grammar.specs.Sources.{namesOf, viewOf, DerivationOf, NoProgramOf, TooDeepOf}
+use Rattle.grammar.specs.executable.ReadTokens.{readTokens}
 use Rattle.grammar.proofs.Laws.Checks.{Hints, Passes}
 use Rattle.grammar.proofs.Laws.Follow.{Steady}
 use Rattle.grammar.proofs.Laws.Grows.{Grows, byLevels}

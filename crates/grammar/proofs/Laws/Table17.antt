@@ -13,16 +13,15 @@ use Rattle.lexer.specs.Items.{Item}
 use Rattle.tree.specs.internal.RowKinds.{programRow, namedTypeRow}
 use Rattle.grammar.specs.Grammars.{endOfTokens, agrees, Names, Production}
 use Rattle.grammar.specs.Rows.{levels}
-use Rattle.grammar.specs.First.{allows, skips, starts, anyOf, emptyWithin, firstWithin, empty, first, canBegin, canSkip}
-use Rattle.grammar.specs.Reading.{breadth, whole}
+use Rattle.grammar.specs.executable.First.{allows, skips, starts, anyOf, emptyWithin, firstWithin, empty, first, canBegin, canSkip}
+use Rattle.grammar.specs.executable.Reading.{breadth, whole}
 use Rattle.grammar.specs.Classes.{typeName}
-use Rattle.grammar.specs.internal.Nonterminals.{interface, function, program, declarations, declaration, alias, methods, method}
-use Rattle.grammar.specs.internal.Nonterminals.{body, functions, definition, mutable, fields, parameters, variants, variant}
-use Rattle.grammar.specs.internal.Nonterminals.{payloadTypes, fieldName, typeParameters, moreNames, statements, loopOrComplement}
-use Rattle.grammar.specs.internal.Nonterminals.{expressions, typeArguments, moreWords, selector, arms, payloads3, payloads2}
-use Rattle.grammar.specs.internal.Nonterminals.{payloads1, types, type, interfaceRest, field, parameter, statement, binding}
-use Rattle.grammar.specs.internal.Nonterminals.{tildeStatement, expression, tryOrClosure, castRest, assignment, parenthesized}
-use Rattle.grammar.specs.internal.Nonterminals.{structParameters}
+use Rattle.grammar.specs.internal.Nonterminals.{interface, function, program, declarations, declaration, alias, methods, method, body}
+use Rattle.grammar.specs.internal.Nonterminals.{functions, definition, mutable, fields, parameters, variants, variant, payloadTypes}
+use Rattle.grammar.specs.internal.Nonterminals.{fieldName, typeParameters, moreNames, statements, loopOrComplement, expressions}
+use Rattle.grammar.specs.internal.Nonterminals.{typeArguments, moreWords, selector, arms, payloads3, payloads2, payloads1, types}
+use Rattle.grammar.specs.internal.Nonterminals.{type, interfaceRest, field, parameter, statement, binding, tildeStatement, expression}
+use Rattle.grammar.specs.internal.Nonterminals.{tryOrClosure, castRest, assignment, parenthesized, structParameters}
 use Rattle.grammar.specs.Nurl.{productions}
 use Rattle.grammar.specs.Languages.{language17, view}
 use Rattle.grammar.proofs.Laws.Checks.{Hints, implies, every, may, firstClosed, emptyClosed, flows, followClosed, live, asks}

@@ -6,8 +6,8 @@ use lib.Dec.{eqb, leb}
 use Rattle.lexer.specs.Tests.{and, pick}
 use Rattle.lexer.specs.internal.Kinds.{ident, lastKind}
 use Rattle.grammar.specs.Grammars.{Production, Names, View}
-use Rattle.grammar.specs.First.{canBegin, canSkip}
-use Rattle.grammar.specs.Reading.{ready, Choice, none, selected}
+use Rattle.grammar.specs.executable.First.{canBegin, canSkip}
+use Rattle.grammar.specs.executable.Reading.{ready, Choice, none, selected}
 use Rattle.grammar.specs.Classes.{typeName}
 use Rattle.grammar.specs.Nurl.{productions}
 

@@ -12,7 +12,7 @@ use Rattle.lexer.proofs.Laws.Places.{tokens-few, fault-placed}
 use Rattle.typenames.proofs.Laws.Entries.{checked-place}
 use Rattle.grammar.specs.Languages.{language17}
 use Rattle.grammar.proofs.Laws.Nurl17.{theorems17}
-use Rattle.answer.specs.Answers.{levelLimit, Result}
+use Rattle.answer.specs.Results.{levelLimit, Result}
 use Rattle.answer.specs.Demands.{Readable, Refusal, too-long, bad-names, bad-byte, open-string, few-token-rows, no-program, too-deep}
 use Rattle.answer.specs.Demands.{few-tree-rows, Acceptance, Demands}
 use Rattle.answer.specs.declared.Answer.the-variants.{Accepted, Refused}

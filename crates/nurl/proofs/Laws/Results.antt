@@ -25,10 +25,11 @@ use Rattle.typenames.specs.declared.Checked.{Checked}
 use Rattle.typenames.specs.declared.Checked.the-variants.{Good}
 use Rattle.typenames.proofs.Laws.Entries.{checked-two}
 use Rattle.tree.specs.TreeTable.{treeRoom}
-use Rattle.grammar.specs.Reading.{Outcome, ok, stuck, deep, spent}
+use Rattle.grammar.specs.executable.Reading.{Outcome, ok, stuck, deep, spent}
 use Rattle.grammar.specs.Languages.{language17}
-use Rattle.grammar.specs.Sources.{readTokens}
-use Rattle.answer.specs.Answers.{levelLimit, late, accept, judged, values, Result, result, answer17, answerValues}
+use Rattle.grammar.specs.executable.ReadTokens.{readTokens}
+use Rattle.answer.specs.executable.Answers.{late, accept, judged, result, answer17, answerValues}
+use Rattle.answer.specs.Results.{levelLimit, values, Result}
 use Rattle.answer.specs.Demands.{Admitted, Readable, too-long, bad-names, bad-byte, open-string, few-token-rows, Demands}
 use Rattle.answer.specs.declared.Answer.{Answer}
 use Rattle.answer.specs.declared.Answer.the-variants.{Refused}

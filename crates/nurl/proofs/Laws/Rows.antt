@@ -26,13 +26,15 @@ use Rattle.tree.specs.TreeTable.{Row, treeRoom, cleared}
 use Rattle.tree.specs.internal.Trees.{put}
 use Rattle.tree.proofs.Laws.Trees.{put-placed}
 use Rattle.grammar.specs.Grammars.{Names, View}
-use Rattle.grammar.specs.Reading.{Outcome, ok, stuck, deep, spent, whole}
+use Rattle.grammar.specs.executable.Reading.{Outcome, ok, stuck, deep, spent, whole}
 use Rattle.grammar.specs.internal.Nonterminals.{program}
 use Rattle.grammar.specs.Nurl.{productions}
 use Rattle.grammar.specs.Languages.{language17}
-use Rattle.grammar.specs.Sources.{viewOf, namesOf, readTokens}
+use Rattle.grammar.specs.Sources.{viewOf, namesOf}
+use Rattle.grammar.specs.executable.ReadTokens.{readTokens}
 use Rattle.grammar.proofs.Laws.Nurl17.{theorems17}
-use Rattle.answer.specs.Answers.{levelLimit, judged, result}
+use Rattle.answer.specs.executable.Answers.{judged, result}
+use Rattle.answer.specs.Results.{levelLimit}
 use Rattle.answer.specs.declared.Answer.the-variants.{Accepted, Refused}
 use Rattle.parser.specs.internal.Steps.{Tokens}
 use Rattle.parser.specs.internal.Readings.{Gives, Reads, read, refused6, refused7, refusedBefore, ReadsWhole}

@@ -4,8 +4,9 @@ use mathlib.Core.List.{List}
 use Rattle.lexer.specs.internal.TokenRows.{rowsOf}
 use Rattle.tree.specs.TreeTable.{treeRoom}
 use Rattle.grammar.specs.Languages.{language17}
-use Rattle.grammar.specs.Sources.{readTokens}
-use Rattle.answer.specs.Answers.{levelLimit, judged, Result, result}
+use Rattle.grammar.specs.executable.ReadTokens.{readTokens}
+use Rattle.answer.specs.executable.Answers.{judged, result}
+use Rattle.answer.specs.Results.{levelLimit, Result}
 
 -- No. 6 to 8 of document 01's table, or acceptance: the answer, and what the tree table holds afterwards
 abbrev pub treeResult : List ℕ → List ℕ → List ℕ → List ℕ → Result

@@ -17,7 +17,7 @@ use Rattle.tree.proofs.Laws.Trees.{put-append, length-put, put-parent}
 use Rattle.grammar.specs.Grammars.{Condition, Symbol, token, derived, condition, Makes, givesRow, rowOf, givesKind, noRow, Production}
 use Rattle.grammar.specs.Grammars.{Names, View, met}
 use Rattle.grammar.specs.Rows.{above, made, passed, firstSaid, levels}
-use Rattle.grammar.specs.Reading.{Outcome, ok, stuck, deep, spent, none, selected, choice, onward}
+use Rattle.grammar.specs.executable.Reading.{Outcome, ok, stuck, deep, spent, none, selected, choice, onward}
 use Rattle.grammar.specs.internal.Productions.{ruleOf}
 use Rattle.parser.specs.internal.Readings.{Gives, Reads, read, refused6, refused7}
 use Rattle.parser.specs.internal.Steps.{Within, inside, elsewhere, Spans, spans, from-refused, to-refused, Small, small, over}

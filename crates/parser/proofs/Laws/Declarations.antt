@@ -13,7 +13,7 @@ use Rattle.lexer.specs.internal.TokenRows.{rowsOf}
 use Rattle.tree.specs.internal.RowKinds.{importRow, foreignRow, functionRow}
 use Rattle.grammar.specs.Grammars.{Symbol, token, derived, Makes, givesRow, rowOf, Names, View}
 use Rattle.grammar.specs.Rows.{levels}
-use Rattle.grammar.specs.Reading.{selected, choice}
+use Rattle.grammar.specs.executable.Reading.{selected, choice}
 use Rattle.grammar.specs.internal.Nonterminals.{declarations, declaration, interface, interfaceRest, function, fields, typeParameters}
 use Rattle.grammar.specs.internal.Nonterminals.{parameters, type, block}
 use Rattle.grammar.specs.internal.Classes.{name}

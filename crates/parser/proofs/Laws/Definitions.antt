@@ -13,10 +13,10 @@ use Rattle.lexer.specs.Table.{tokenRoom}
 use Rattle.lexer.specs.internal.TokenRows.{rowsOf, kindAt}
 use Rattle.lexer.proofs.Laws.Tests.{and-left}
 use Rattle.tree.specs.internal.RowKinds.{structRow, enumRow, constantRow, variantRow}
-use Rattle.grammar.specs.Grammars.{Condition, query, Symbol, token, derived, when, unless, Makes, givesRow, rowOf, givesKind, noRow}
-use Rattle.grammar.specs.Grammars.{Names, View, asked}
+use Rattle.grammar.specs.Grammars.{Condition, query, Symbol, token, derived, when, unless, Makes, givesRow, rowOf, givesKind, noRow, Names}
+use Rattle.grammar.specs.Grammars.{View, asked}
 use Rattle.grammar.specs.Rows.{levels}
-use Rattle.grammar.specs.Reading.{selected, choice}
+use Rattle.grammar.specs.executable.Reading.{selected, choice}
 use Rattle.grammar.specs.internal.Nonterminals.{declaration, definition, mutable, fields, variants, variant, payloadTypes, typeParameters}
 use Rattle.grammar.specs.internal.Nonterminals.{literal, type, structParameters}
 use Rattle.grammar.specs.internal.Classes.{name}

@@ -15,10 +15,10 @@ use Rattle.lexer.specs.internal.TokenRows.{rowsOf, kindAt}
 use Rattle.lexer.proofs.Laws.Tests.{and-left, or-else}
 use Rattle.tree.specs.internal.RowKinds.{literalRow, nameRow, tryRow, closureRow, sizeofRow, aggregateRow, sliceRow, callRow, castRow}
 use Rattle.tree.specs.internal.RowKinds.{matchRow, blockRow}
-use Rattle.grammar.specs.Grammars.{query, Symbol, token, derived, when, unless, Makes, givesRow, rowOf, givesKind, noRow, Production}
-use Rattle.grammar.specs.Grammars.{Names, View, asked, met}
+use Rattle.grammar.specs.Grammars.{query, Symbol, token, derived, when, unless, Makes, givesRow, rowOf, givesKind, noRow, Production, Names}
+use Rattle.grammar.specs.Grammars.{View, asked, met}
 use Rattle.grammar.specs.Rows.{levels}
-use Rattle.grammar.specs.Reading.{deep, none, selected, choice}
+use Rattle.grammar.specs.executable.Reading.{deep, none, selected, choice}
 use Rattle.grammar.specs.internal.Nonterminals.{parameters, block, statements, expressions, expression, literal, tryOrClosure}
 use Rattle.grammar.specs.internal.Nonterminals.{typeArguments, castRest, selector, arms, type}
 use Rattle.grammar.specs.internal.Classes.{literals}

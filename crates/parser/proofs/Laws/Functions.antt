@@ -13,7 +13,7 @@ use Rattle.lexer.specs.internal.TokenRows.{rowsOf}
 use Rattle.tree.specs.internal.RowKinds.{traitRow, implRow, functionRow, headerRow}
 use Rattle.grammar.specs.Grammars.{Symbol, token, derived, Makes, givesRow, rowOf, givesKind, noRow, Names, View}
 use Rattle.grammar.specs.Rows.{levels}
-use Rattle.grammar.specs.Reading.{selected, choice}
+use Rattle.grammar.specs.executable.Reading.{selected, choice}
 use Rattle.grammar.specs.internal.Nonterminals.{declaration, interface, interfaceRest, methods, method, body, functions, function}
 use Rattle.grammar.specs.internal.Nonterminals.{parameters, typeParameters, block, type}
 use Rattle.grammar.specs.internal.Classes.{name}

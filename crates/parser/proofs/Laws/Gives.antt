@@ -11,8 +11,8 @@ use Rattle.lexer.specs.Tests.{pick, among}
 use Rattle.tree.specs.TreeTable.{Row}
 use Rattle.grammar.specs.Grammars.{Condition, Symbol, token, derived, condition, Makes, noRow, Production, Names, View, met}
 use Rattle.grammar.specs.Rows.{made, passed, firstSaid, levels}
-use Rattle.grammar.specs.Reading.{Outcome, ok, stuck, deep, spent, Choice, none, selected, choice, onward, descend, enter, joined}
-use Rattle.grammar.specs.Reading.{readWithin}
+use Rattle.grammar.specs.executable.Reading.{Outcome, ok, stuck, deep, spent, Choice, none, selected, choice, onward, descend, enter}
+use Rattle.grammar.specs.executable.Reading.{joined, readWithin}
 use Rattle.grammar.proofs.Laws.Grows.{Way, byFuel, Grows, same, from-spent, grows-onward, grows-pick, grows-descend, grows-enter}
 use Rattle.grammar.proofs.Laws.Grows.{more-fuel}
 use Rattle.parser.specs.internal.Readings.{Gives}

@@ -13,7 +13,7 @@ use Rattle.lexer.specs.internal.TokenRows.{rowsOf, kindAt}
 use Rattle.tree.specs.internal.RowKinds.{listRow}
 use Rattle.grammar.specs.Grammars.{Symbol, token, derived, condition, when, unless, query, givesRow, noRow, Names, View, asked, met}
 use Rattle.grammar.specs.Rows.{levels}
-use Rattle.grammar.specs.Reading.{Outcome, selected, descend, enter, readWithin}
+use Rattle.grammar.specs.executable.Reading.{Outcome, selected, descend, enter, readWithin}
 use Rattle.grammar.specs.internal.Nonterminals.{moreNames, moreWords, nameList, wordList, typeParameters, typeArguments, structParameters}
 use Rattle.grammar.specs.internal.Classes.{anyWord, declaredWord}
 use Rattle.grammar.specs.Questions.{answerTo}

@@ -11,7 +11,7 @@ use Rattle.lexer.specs.internal.TokenRows.{rowsOf}
 use Rattle.tree.specs.internal.RowKinds.{armRow, payloadRow}
 use Rattle.grammar.specs.Grammars.{Symbol, token, derived, Makes, givesRow, noRow, Names, View}
 use Rattle.grammar.specs.Rows.{levels}
-use Rattle.grammar.specs.Reading.{selected}
+use Rattle.grammar.specs.executable.Reading.{selected}
 use Rattle.grammar.specs.internal.Nonterminals.{expression, arms, arm, payloads3, payloads2, payloads1, payload}
 use Rattle.grammar.specs.internal.Classes.{declaredWord, payloadToken}
 use Rattle.grammar.specs.Nurl.{productions}

@@ -11,7 +11,7 @@ use Rattle.lexer.specs.internal.Kinds.{lastKind}
 use Rattle.lexer.specs.Table.{tokenRoom}
 use Rattle.lexer.specs.internal.TokenRows.{rowsOf, kindAt}
 use Rattle.grammar.specs.Grammars.{next, Symbol, token, derived, Makes, noRow, Names, View, asked, met}
-use Rattle.grammar.specs.Reading.{selected, choice}
+use Rattle.grammar.specs.executable.Reading.{selected, choice}
 use Rattle.grammar.specs.Nurl.{productions}
 use Rattle.grammar.specs.internal.Productions.{ruleOf}
 use Rattle.grammar.specs.Languages.{language17}

@@ -10,7 +10,7 @@ use Rattle.lexer.specs.internal.TokenRows.{rowsOf}
 use Rattle.tree.specs.internal.RowKinds.{parameterRow}
 use Rattle.grammar.specs.Grammars.{Symbol, token, derived, unless, Makes, givesRow, noRow, Names, View}
 use Rattle.grammar.specs.Rows.{levels}
-use Rattle.grammar.specs.Reading.{selected, choice}
+use Rattle.grammar.specs.executable.Reading.{selected, choice}
 use Rattle.grammar.specs.internal.Nonterminals.{type, parameters, parameter, fields, field, fieldName}
 use Rattle.grammar.specs.internal.Classes.{name}
 use Rattle.grammar.specs.Nurl.{productions, anyName}

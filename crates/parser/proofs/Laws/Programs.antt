@@ -11,7 +11,7 @@ use Rattle.lexer.specs.internal.TokenRows.{rowsOf}
 use Rattle.tree.specs.internal.RowKinds.{programRow}
 use Rattle.grammar.specs.Grammars.{endOfTokens, next, Symbol, derived, givesRow, Names, View, agrees, asked, met}
 use Rattle.grammar.specs.Rows.{levels}
-use Rattle.grammar.specs.Reading.{whole}
+use Rattle.grammar.specs.executable.Reading.{whole}
 use Rattle.grammar.specs.internal.Nonterminals.{program, declarations}
 use Rattle.grammar.specs.Nurl.{productions}
 use Rattle.grammar.specs.internal.Productions.{ruleOf}

@@ -16,7 +16,7 @@ use Rattle.lexer.specs.internal.TokenRows.{rowsOf, kindAt}
 use Rattle.lexer.proofs.Laws.Tests.{and-left, and-right, between-range}
 use Rattle.grammar.specs.Grammars.{Symbol, token, derived, Makes, givesRow, rowOf, noRow, givesKind, Production, Names, View, agrees}
 use Rattle.grammar.specs.Rows.{levels}
-use Rattle.grammar.specs.Reading.{deep, Choice, none, selected, choice}
+use Rattle.grammar.specs.executable.Reading.{deep, Choice, none, selected, choice}
 use Rattle.grammar.specs.internal.Classes.{name, anyWord, declaredWord}
 use Rattle.grammar.specs.Nurl.{productions}
 use Rattle.grammar.specs.internal.Productions.{ruleOf}

@@ -12,10 +12,9 @@ use Rattle.lexer.specs.Table.{tokenRoom}
 use Rattle.lexer.specs.internal.TokenRows.{rowsOf, kindAt}
 use Rattle.lexer.proofs.Laws.Tests.{and-left}
 use Rattle.tree.specs.internal.RowKinds.{blockRow, letRow, setNameRow, setElementRow, deferRow, whileRow, foreachRow, complementRow}
-use Rattle.grammar.specs.Grammars.{query, Symbol, token, derived, unless, Makes, givesRow, rowOf, givesKind, noRow, Names, View, asked}
-use Rattle.grammar.specs.Grammars.{met}
+use Rattle.grammar.specs.Grammars.{query, Symbol, token, derived, unless, Makes, givesRow, rowOf, givesKind, noRow, Names, View, asked, met}
 use Rattle.grammar.specs.Rows.{levels}
-use Rattle.grammar.specs.Reading.{selected, choice}
+use Rattle.grammar.specs.executable.Reading.{selected, choice}
 use Rattle.grammar.specs.internal.Nonterminals.{block, statements, statement, binding, assignment, tildeStatement, loopOrComplement}
 use Rattle.grammar.specs.internal.Nonterminals.{expression, type}
 use Rattle.grammar.specs.internal.Classes.{name}
@@ -34,8 +33,7 @@ use Rattle.grammar.proofs.Laws.Alternatives17.{assignment-setElement, assignmen
 use Rattle.grammar.proofs.Laws.Alternatives17.{tildeStatement-none, loopOrComplement-some, loopOrComplement-none}
 use Rattle.grammar.proofs.Laws.Alternatives17 as alternatives
 use Rattle.parser.specs.internal.Readings.{Reads}
-use Rattle.parser.specs.internal.Steps.{Tokens, Within, nextKind, beginsPart, kindsAt, askedAt, refusedAt, takenKind, takenIf}
-use Rattle.parser.specs.internal.Steps.{opened}
+use Rattle.parser.specs.internal.Steps.{Tokens, Within, nextKind, beginsPart, kindsAt, askedAt, refusedAt, takenKind, takenIf, opened}
 use Rattle.parser.specs.declared.Step.{Step}
 use Rattle.parser.specs.declared.Step.the-variants.{Read}
 use Rattle.parser.proofs.Laws.After.{After, start, went, looked, spoken, held, done, list-more, list-done}

@@ -15,7 +15,7 @@ use Rattle.lexer.specs.internal.TokenRows.{rowsOf}
 use Rattle.tree.specs.internal.RowKinds.{baseTypeRow, functionTypeRow, instanceRow, namedTypeRow}
 use Rattle.grammar.specs.Grammars.{Symbol, token, derived, Makes, givesRow, givesKind, noRow, Names, View}
 use Rattle.grammar.specs.Rows.{levels}
-use Rattle.grammar.specs.Reading.{none, selected, choice}
+use Rattle.grammar.specs.executable.Reading.{none, selected, choice}
 use Rattle.grammar.specs.internal.Nonterminals.{type, types, parenthesized, moreWords}
 use Rattle.grammar.specs.internal.Classes.{name, anyWord}
 use Rattle.grammar.specs.Nurl.{productions}

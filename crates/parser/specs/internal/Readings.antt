@@ -13,7 +13,7 @@ use Rattle.typenames.specs.declared.Scope.{Scope}
 use Rattle.tree.specs.TreeTable.{Row}
 use Rattle.tree.specs.internal.Trees.{put}
 use Rattle.grammar.specs.Grammars.{Symbol, derived, Production, Names, View}
-use Rattle.grammar.specs.Reading.{Outcome, ok, stuck, deep, readWithin, whole}
+use Rattle.grammar.specs.executable.Reading.{Outcome, ok, stuck, deep, readWithin, whole}
 use Rattle.grammar.specs.internal.Nonterminals.{program}
 use Rattle.grammar.specs.Nurl.{productions}
 use Rattle.grammar.specs.Languages.{language17}

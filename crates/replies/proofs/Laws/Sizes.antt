@@ -19,7 +19,8 @@ use Rattle.grammar.specs.Forests.{Forest, nothing, tree}
 use Rattle.grammar.specs.Languages.{language17}
 use Rattle.grammar.proofs.Laws.KnownKinds.{KindsTo, none, each}
 use Rattle.grammar.proofs.Laws.Nurl17.{theorems17}
-use Rattle.answer.specs.Answers.{levelLimit, Result, answer17}
+use Rattle.answer.specs.executable.Answers.{answer17}
+use Rattle.answer.specs.Results.{levelLimit, Result}
 use Rattle.answer.specs.Demands.{Refusal, too-long, bad-names, bad-byte, open-string, few-token-rows, no-program, too-deep, few-tree-rows}
 use Rattle.answer.specs.Demands.{Demands}
 use Rattle.answer.specs.declared.Answer.{Answer}

@@ -1,7 +1,7 @@
 -- `nurl::exports::nurl_read` meets its contract: every number of the answer has 32 bits. Assumes nothing.
 use mathlib.Core.Path.{sym, _∙_, ap}
 use native.Mathlib.Omega.{arith}
-use Rattle.answer.specs.Answers.{Result, values}
+use Rattle.answer.specs.Results.{Result, values}
 use Rattle.nurl.proofs.Laws.Numbers.{refused-small, accepted-small}
 use Rattle.nurl.proofs.exports.nurl_read.Statement.{statement}
 use Rattle.nurl.proofs.exports.nurl_read.Tie as tie

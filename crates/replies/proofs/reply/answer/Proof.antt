@@ -1,7 +1,7 @@
 -- `replies::reply::answer` meets its contract. Assumes nothing.
 use mathlib.Core.Path.{refl, ap}
 use borrow.Author.Tests.{lt-ltb, le-ltb}
-use Rattle.answer.specs.Answers.{Result}
+use Rattle.answer.specs.Results.{Result}
 use Rattle.replies.specs.Desk.{deskResult}
 use Rattle.replies.proofs.reply.answer.Statement.{statement}
 use Rattle.replies.proofs.reply.answer.Tie as tie

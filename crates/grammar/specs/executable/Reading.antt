@@ -10,7 +10,7 @@ use Rattle.lexer.specs.Tests.{and, pick, among}
 use Rattle.tree.specs.TreeTable.{Row}
 use Rattle.grammar.specs.Grammars.{endOfTokens, next, Symbol, token, derived, condition, when, Makes, Production, Names, View, met}
 use Rattle.grammar.specs.Rows.{made, passed, firstSaid, levels}
-use Rattle.grammar.specs.First.{canBegin, canSkip}
+use Rattle.grammar.specs.executable.First.{canBegin, canSkip}
 
 pub data Outcome : Type 0 where
   -- read up to a token: the rows, and the kind said for the row that this is a part of

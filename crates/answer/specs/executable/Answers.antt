@@ -1,5 +1,5 @@
--- The answer for any source, list of names and two lent tables, and what both tables hold afterwards: document 01's table of
--- refusals, in its order.
+-- The answer for any source, list of names and two lent tables, and what both tables hold afterwards, computed: document 01's table
+-- of refusals, in its order.
 use Prim.Native.Nat.{ℕ}
 use mathlib.Core.List.{List, [], _∷_}
 use lib.Dec.{leb, ltb}
@@ -12,21 +12,11 @@ use Rattle.typenames.specs.NameList.{checked}
 use Rattle.typenames.specs.declared.Checked.{Checked}
 use Rattle.typenames.specs.declared.Checked.the-variants.{Good}
 use Rattle.tree.specs.TreeTable.{Row, treeRoom, placed, cleared}
-use Rattle.grammar.specs.Reading.{Outcome, ok, stuck, deep, spent}
+use Rattle.grammar.specs.executable.Reading.{Outcome, ok, stuck, deep, spent}
 use Rattle.grammar.specs.Languages.{Language, language17}
-use Rattle.grammar.specs.Sources.{readTokens}
-use Rattle.answer.specs.declared.Answer.{Answer}
+use Rattle.grammar.specs.executable.ReadTokens.{readTokens}
+use Rattle.answer.specs.Results.{levelLimit, values, Result}
 use Rattle.answer.specs.declared.Answer.the-variants.{Accepted, Refused}
-
--- "where that row would be at level 201"
-abbrev pub levelLimit : ℕ
-levelLimit = 200
-
--- document 01's number and values for each case of the answer, as three numbers: 0 and the two row counts, or the refusal's number,
--- its place and 0
-unfoldable pub values : Answer → List ℕ
-values (Accepted tokens rows) = 0 ∷ tokens ∷ rows ∷ []
-values (Refused number place) = number ∷ place ∷ 0 ∷ []
 
 -- what is found out about a source
 pub data Verdict : Type 0 where
@@ -62,12 +52,6 @@ verdict l limit source names tokenSpace treeSpace =
     let decided = scannedTokens l limit source names tokenSpace treeSpace (scanned .found) (scanned .ending) in
     let named = checkedNames (checked (l .lexical) names) decided in
     pick (ltb sourceLimit (length source)) (early (refusalNumber "long source") 0) named
-
--- the answer, and what the token table and the tree table hold afterwards
-pub record Result : Type 0 where
-  pub answer : Answer
-  pub tokens : List ℕ
-  pub rows : List ℕ
 
 -- "unchanged", "all tokens" and "whole rows all zero", for a source
 unfoldable pub result : List ℕ → Verdict → List ℕ → List ℕ → Result
