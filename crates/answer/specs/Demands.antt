@@ -1,20 +1,19 @@
--- Demands 1, 2 and 3 of document 00 as one record, in document 01's words, of any reader's result. The answer's definition has them
--- (`answer-meets` in proofs/Theorem.antt), and whatever has them is that answer (`answer-only`): they leave nothing open.
+-- Demands 1, 2 and 3 of document 00 as one record, in document 01's words, of any reader's result. They speak of tokens, derivations
+-- and partial derivations as relations, and of nothing that reads. The computed answer has them (`answer-meets` in
+-- proofs/Theorem.antt), and whatever has them is that answer (`answer-only`): they leave nothing open.
 use Prim.Native.Nat.{ℕ, _<_, _≤_}
 use mathlib.Core.Path.{_≡_}
-use mathlib.Core.List.{List, flatten}
+use mathlib.Core.List.{List}
 use lib.ListN.{length}
 use Rattle.lexer.specs.Refusals.{refusalNumber}
-use Rattle.lexer.specs.Tokens.{Token, fault, cleanly, pieces, lexemes, scan}
+use Rattle.lexer.specs.Tokens.{Token, clean, fault, Tiles}
 use Rattle.lexer.specs.Table.{sourceLimit, tokenRoom, filled}
 use Rattle.typenames.specs.NameList.{checked}
 use Rattle.typenames.specs.declared.Checked.{Checked}
 use Rattle.typenames.specs.declared.Checked.the-variants.{Good}
 use Rattle.tree.specs.TreeTable.{Row, treeRoom, placed, cleared}
-use Rattle.grammar.specs.executable.Reading.{stuck, deep}
 use Rattle.grammar.specs.Languages.{Language, language17}
-use Rattle.grammar.specs.Sources.{DerivationOf}
-use Rattle.grammar.specs.executable.ReadTokens.{readTokens}
+use Rattle.grammar.specs.Sources.{DerivationOf, NoProgramOf, TooDeepOf}
 use Rattle.answer.specs.Results.{levelLimit, Result}
 use Rattle.answer.specs.declared.Answer.the-variants.{Accepted, Refused}
 
@@ -30,8 +29,9 @@ module _ (l : Language) (source names : List ℕ) where
   -- "any source within the length limit with a good name list, clean tokens"; these are the tokens
   pub record Readable (ts : List Token) : Type 0 where
     pub admitted : Admitted
-    -- "tokens are clean when the source has nothing that No. 3 or 4 describes"
-    pub scans : scan (l .lexical) source ≡ cleanly ts
+    -- "tokens are clean when the source has nothing that No. 3 or 4 describes": it is gaps and these tokens in turn, "every byte
+    -- accounted for once"
+    pub tiles : Tiles (l .lexical) 0 source ts clean
 
   -- and for a level limit and two lent tables
   module _ (limit : ℕ) (tokens rows : List ℕ) where
@@ -42,7 +42,8 @@ module _ (l : Language) (source names : List ℕ) where
       pub for-rows : (rs : List Row) → DerivationOf l source names ts limit rs → length rs ≤ treeRoom rows
 
     -- Document 01's table of refusals: a number, a place, the token table and the tree table afterwards, and when it is given.
-    -- Each line also asks that no line above it applies; of 3 and 4, and of 6 and 7, `scan` and the reading meet one first.
+    -- Each line also asks that no line above it applies. Of 3 and 4 the one comes that the tokens end at, and of 6 and 7 their places
+    -- say which it is.
     pub data Refusal : ℕ → ℕ → List ℕ → List ℕ → Type 0 where
       -- "source over 1,048,576 bytes"
       too-long : sourceLimit < length source → Refusal (refusalNumber "long source") 0 tokens rows
@@ -50,37 +51,39 @@ module _ (l : Language) (source names : List ℕ) where
       bad-names : {place : ℕ} → length source ≤ sourceLimit → checked (l .lexical) names ≡ Checked.Refused (refusalNumber "bad names") place
           → Refusal (refusalNumber "bad names") place tokens rows
       -- "a byte begins no token, space or comment"
-      bad-byte : {place : ℕ} → Admitted → scan (l .lexical) source .ending ≡ fault (refusalNumber "bad byte") place
+      bad-byte : {place : ℕ} {ts : List Token} → Admitted → Tiles (l .lexical) 0 source ts (fault (refusalNumber "bad byte") place)
           → Refusal (refusalNumber "bad byte") place tokens rows
       -- "a string is not closed"
-      open-string : {place : ℕ} → Admitted → scan (l .lexical) source .ending ≡ fault (refusalNumber "open string") place
+      open-string : {place : ℕ} {ts : List Token} → Admitted → Tiles (l .lexical) 0 source ts (fault (refusalNumber "open string") place)
           → Refusal (refusalNumber "open string") place tokens rows
       -- "more tokens than rows"
       few-token-rows : {ts : List Token} → Readable ts → tokenRoom tokens < length ts → Refusal (refusalNumber "few token rows") (length ts) tokens rows
-      -- "no program": the place is "the token that the leftmost reading .. cannot take"
-      no-program : {ts : List Token} {place : ℕ} → Readable ts → length ts ≤ tokenRoom tokens
-          → readTokens l limit source names ts ≡ stuck place → Refusal (refusalNumber "no program") place (filled source ts tokens) (cleared rows)
-      -- "too deep": the place is "a token that can begin the row called for"
-      too-deep : {ts : List Token} {place : ℕ} → Readable ts → length ts ≤ tokenRoom tokens
-          → readTokens l limit source names ts ≡ deep place → Refusal (refusalNumber "too deep") place (filled source ts tokens) (cleared rows)
+      -- "no program": the place is the furthest that leftmost derivations reach, at any depth
+      no-program : {ts : List Token} {place : ℕ} → Readable ts → length ts ≤ tokenRoom tokens → NoProgramOf l source names ts limit place
+          → Refusal (refusalNumber "no program") place (filled source ts tokens) (cleared rows)
+      -- "too deep": the place is the furthest that they reach within the limit, and without it they go on
+      too-deep : {ts : List Token} {place : ℕ} → Readable ts → length ts ≤ tokenRoom tokens → TooDeepOf l source names ts limit place
+          → Refusal (refusalNumber "too deep") place (filled source ts tokens) (cleared rows)
       -- "more tree rows than room"
-      few-tree-rows : {ts : List Token} {rs : List Row} → Readable ts → length ts ≤ tokenRoom tokens
-          → DerivationOf l source names ts limit rs → treeRoom rows < length rs
-          → Refusal (refusalNumber "few tree rows") (length rs) (filled source ts tokens) (cleared rows)
+      few-tree-rows : {ts : List Token} {rs : List Row} → Readable ts → length ts ≤ tokenRoom tokens → DerivationOf l source names ts limit rs
+          → treeRoom rows < length rs → Refusal (refusalNumber "few tree rows") (length rs) (filled source ts tokens) (cleared rows)
+
+    -- a token table afterwards: "the one that the lexical rules of grammar 1.7 give .., every byte accounted for once"
+    pub record TokenTable (tokensAfter : List ℕ) : Type 0 where
+      pub token-list : List Token
+      pub readable : Readable token-list
+      pub numbers : tokensAfter ≡ filled source token-list tokens
 
     -- what acceptance with two row counts says, of the tables afterwards
     pub record Acceptance (tokenCount rowCount : ℕ) (tokensAfter rowsAfter : List ℕ) : Type 0 where
-      pub token-list : List Token
-      pub row-list : List Row
-      pub readable : Readable token-list
-      pub room : Room token-list
-      -- "The token table is the one that the lexical rules of grammar 1.7 give"
-      pub token-count : tokenCount ≡ length token-list
-      pub token-table : tokensAfter ≡ filled source token-list tokens
+      pub token-table : TokenTable tokensAfter
+      pub room : Room (token-table .token-list)
+      pub token-count : tokenCount ≡ length (token-table .token-list)
       -- "the rows are, in order, a derivation of those tokens by the grammar", "nested at most 200 levels"
+      pub row-list : List Row
       pub row-count : rowCount ≡ length row-list
       pub row-table : rowsAfter ≡ placed row-list rows
-      pub derived : DerivationOf l source names token-list limit row-list
+      pub derived : DerivationOf l source names (token-table .token-list) limit row-list
 
     -- Demand 1: "A refusal carries its number and its place, and both lent tables are then left exactly as document 01's table
     -- says", and a refusal is "given exactly when" that table says.
@@ -90,12 +93,11 @@ module _ (l : Language) (source names : List ℕ) where
           → r ≡ record { answer = Refused number place; tokens = tokensAfter; rows = rowsAfter }
 
     -- Demand 2: "The token table is the one that the lexical rules of grammar 1.7 give .., every byte accounted for once. On
-    -- acceptance the rows are, in order, a derivation of those tokens by the grammar." The token table after 6, 7 and 8 is in
-    -- `Refusal`. That every byte is accounted for is said of the lexical rules, and so of any reader that keeps to them.
+    -- acceptance the rows are, in order, a derivation of those tokens by the grammar."
     pub record Demand2 (r : Result) : Type 0 where
-      pub every-byte : (ts : List Token) → Readable ts → flatten (pieces source (lexemes (l .lexical) source)) ≡ source
-      pub accepted : (tokenCount rowCount : ℕ) → r .answer ≡ Accepted tokenCount rowCount
-          → Acceptance tokenCount rowCount (r .tokens) (r .rows)
+      pub accepted : (tokenCount rowCount : ℕ) → r .answer ≡ Accepted tokenCount rowCount → Acceptance tokenCount rowCount (r .tokens) (r .rows)
+      -- the token table after 6, 7 and 8
+      pub every-byte : (number place : ℕ) → r .answer ≡ Refused number place → refusalNumber "no program" ≤ number → TokenTable (r .tokens)
 
     -- Demand 3, of any source "within the length limit with a good name list, clean tokens and room in both tables".
     pub record Demand3 (r : Result) : Type 0 where
@@ -104,9 +106,8 @@ module _ (l : Language) (source names : List ℕ) where
       pub accepts : (ts : List Token) (rs : List Row) → Readable ts → Room ts → DerivationOf l source names ts limit rs
           → r ≡ record { answer = Accepted (length ts) (length rs); tokens = filled source ts tokens; rows = placed rs rows }
       -- "Every derivation of those tokens, at whatever depth, is then that same one."
-      pub only : (tokenCount rowCount : ℕ) → r .answer ≡ Accepted tokenCount rowCount → (ts : List Token) → Readable ts
-          → (n : ℕ) (rs : List Row) → DerivationOf l source names ts n rs
-          → r ≡ record { answer = Accepted (length ts) (length rs); tokens = filled source ts tokens; rows = placed rs rows }
+      pub only : (tokenCount rowCount : ℕ) (a : Acceptance tokenCount rowCount (r .tokens) (r .rows)) (n : ℕ) (rs : List Row)
+          → DerivationOf l source names (a .token-table .token-list) n rs → rs ≡ a .row-list
       -- "“No program” is said only if there is no derivation at any depth"
       pub no-derivation : (place : ℕ) → r .answer ≡ Refused (refusalNumber "no program") place → (ts : List Token) → Readable ts
           → (n : ℕ) (rs : List Row) → DerivationOf l source names ts n rs → ⊥
@@ -120,8 +121,9 @@ module _ (l : Language) (source names : List ℕ) where
     -- - one that never writes violates `accepted`, by the token table (`never-writes-violates`);
     -- - one that reads the first declaration and invents the others violates `accepted`, by `derived`, and `only` fixes each row
     --   (`reads-first-violates`);
-    -- - one that reports invented row counts violates `accepted` for the tokens (`invents-tokens-violates`) and `only` for the tree
-    --   (`invents-rows-violates`).
+    -- - one that reports invented row counts violates `accepted`, for the tokens (`invents-tokens-violates`) and for the tree, whose
+    --   rows `only` fixes (`invents-rows-violates`).
+    -- And one that leaves a token out of the table violates `accepted`, by `tiles` (`drops-token-violates`).
     pub record Demands (r : Result) : Type 0 where
       pub demand1 : Demand1 r
       pub demand2 : Demand2 r

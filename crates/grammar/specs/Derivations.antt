@@ -20,17 +20,12 @@ pub data Has : List Production → Production → Type 0 where
 pub data Derives (g : List Production) (v : View) : Names → ℕ → List Symbol → ℕ → ℕ → List Row → ℕ → Type 0 where
   end : {e : Names} {n i : ℕ} → Derives g v e n [] i i [] 0
   taken : {e : Names} {n i j said : ℕ} {cs : List ℕ} {ss : List Symbol} {rows : List Row}
-      → among cs (v .class e i) ≡ true
-      → Derives g v e n ss (suc i) j rows said
-      → Derives g v e n (token cs ∷ ss) i j rows said
+      → among cs (v .class e i) ≡ true → Derives g v e n ss (suc i) j rows said → Derives g v e n (token cs ∷ ss) i j rows said
   held : {e : Names} {n i j said : ℕ} {b : Bool} {q : Condition} {ss : List Symbol} {rows : List Row}
-      → met v e i b q ≡ true
-      → Derives g v e n ss i j rows said
-      → Derives g v e n (condition b q ∷ ss) i j rows said
+      → met v e i b q ≡ true → Derives g v e n ss i j rows said → Derives g v e n (condition b q ∷ ss) i j rows said
   entered : {e : Names} {n below i j k x said later : ℕ} {p : Production} {ss : List Symbol} {inner rest : List Row}
       → Has g p → p .left ≡ x → n ≡ levels (p .makes) + below
-      → Derives g v (v .inside x i e) below (p .right) i j inner said
-      → Derives g v e n ss j k rest later
+      → Derives g v (v .inside x i e) below (p .right) i j inner said → Derives g v e n ss j k rest later
       → Derives g v e n (derived x ∷ ss) i k (made (p .makes) i j said inner ++ rest) (firstSaid (passed (p .makes) said) later)
 
 -- A derivation of a token list of so many tokens: it "takes all the tokens". It is nested at most n levels: "The program row is

@@ -1,8 +1,8 @@
 -- Grammars as data: conditions, symbols and productions, and what a grammar asks of some tokens.
 use Prim.Native.Nat.{ℕ}
-use mathlib.Core.Bool.{Bool, true, false}
+use mathlib.Core.Bool.{Bool, true, false, not}
 use mathlib.Core.List.{List}
-use Rattle.lexer.specs.Tests.{among}
+use Rattle.lexer.specs.Tests.{pick, among}
 
 -- A class of tokens is a number: a token's kind, or a number of its own for those tokens of a kind that the rules tell apart. This
 -- is the class of the place after the last token.
@@ -61,9 +61,7 @@ pub record View : Type 0 where
 
 -- whether a test says what is asked
 unfoldable pub agrees : Bool → Bool → Bool
-agrees true t = t
-agrees false true = false
-agrees false false = true
+agrees b t = pick b t (not t)
 
 unfoldable pub asked : View → Names → ℕ → Condition → Bool
 asked v e i (next cs) = among cs (v .class e i)

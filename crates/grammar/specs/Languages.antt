@@ -27,15 +27,14 @@ pub record Language : Type 0 where
 
 -- grammar 1.7, document 009: no nonterminal adds names
 abbrev pub language17 : Language
-language17 =
-    record {
-      lexical = edition17;
-      productions = productions;
-      start = nonterminal "program";
-      questions = questions17;
-      opening = opening17;
-      adds = λ x ts. [];
-    }
+language17 = record {
+  lexical = edition17;
+  productions = productions;
+  start = nonterminal "program";
+  questions = questions17;
+  opening = opening17;
+  adds = λ x ts. [];
+}
 
 abbrev pub noItem : Item
 noItem = record { kind = endOfTokens; text = [] }
@@ -46,9 +45,8 @@ classOf e t = pick (and (eqb (t .kind) (tokenKind "IDENT")) (isNamed e (t .text)
 
 -- what the grammar asks of some tokens; past the last of them is the end
 unfoldable pub view : Language → List Item → View
-view l ts =
-    record {
-      class = λ e i. classOf e (getD ts i noItem);
-      holds = λ q i. answerTo (l .questions) q (drop i ts);
-      inside = λ x i e. l .adds x (take i ts) ++ e;
-    }
+view l ts = record {
+  class = λ e i. classOf e (getD ts i noItem);
+  holds = λ q i. answerTo (l .questions) q (drop i ts);
+  inside = λ x i e. l .adds x (take i ts) ++ e;
+}

@@ -39,8 +39,7 @@ unfoldable pub declared : List ℕ → ℕ → List Item → List (List ℕ)
 declared opening depth [] = []
 declared opening depth (a ∷ []) = []
 declared opening depth (a ∷ b ∷ []) = []
-declared opening depth (a ∷ b ∷ c ∷ ts) =
-    namesAt opening depth a b c ++ declared opening (deeper depth (a .kind)) (b ∷ c ∷ ts)
+declared opening depth (a ∷ b ∷ c ∷ ts) = namesAt opening depth a b c ++ declared opening (deeper depth (a .kind)) (b ∷ c ∷ ts)
 
 -- the kinds that can follow a struct's name in grammar 1.7: "before `{` or `[`"
 abbrev pub opening17 : List ℕ

@@ -16,7 +16,6 @@ use Rattle.lexer.specs.internal.TokenRows.{rowsOf}
 use Rattle.lexer.specs.internal.Tokenized.{endedWith, scanned, counted, withRoom, afterAnswer, tokenized, tableAfter}
 use Rattle.lexer.specs.declared.Scanned.the-variants.{Tokens}
 use Rattle.lexer.specs.declared.Scanned.{Scanned}
-use Rattle.lexer.proofs.Laws.Scans.{cleanly-found}
 use Rattle.lexer.proofs.Laws.Rows.{filled-length, filled-rows}
 use Rattle.lexer.proofs.Laws.Counts.{spelled17}
 use Rattle.lexer.proofs.Laws.Places.{fault-placed}
@@ -28,11 +27,13 @@ use Rattle.tree.specs.TreeTable.{treeRoom}
 use Rattle.grammar.specs.executable.Reading.{Outcome, ok, stuck, deep, spent}
 use Rattle.grammar.specs.Languages.{language17}
 use Rattle.grammar.specs.executable.ReadTokens.{readTokens}
+use Rattle.grammar.proofs.Laws.Nurl17.{fit17}
 use Rattle.answer.specs.executable.Answers.{late, accept, judged, result, answer17, answerValues}
 use Rattle.answer.specs.Results.{levelLimit, values, Result}
 use Rattle.answer.specs.Demands.{Admitted, Readable, too-long, bad-names, bad-byte, open-string, few-token-rows, Demands}
 use Rattle.answer.specs.declared.Answer.{Answer}
 use Rattle.answer.specs.declared.Answer.the-variants.{Refused}
+use Rattle.answer.proofs.Laws.Readable.{readable-scan, scan-readable, fault-tiles}
 use Rattle.answer.proofs.Laws.Answers.{read-result}
 use Rattle.answer.proofs.Theorem.{answer-meets}
 use Rattle.nurl.specs.internal.Results.{treeResult}
@@ -106,17 +107,19 @@ module _ (source names tokens rows : List ℕ) where
         → ((number ≡ 3) × A) ⊎ ((number ≡ 4) × B) → unchanged number place ≡ answer17 source names tokens rows
     refused-fault number place h (inl (three, b)) =
         rw three
-        (sym (answer-meets source names tokens rows .demand1 .refusal 3 place tokens rows (bad-byte admitted (rw three at h))))
+        (sym (answer-meets source names tokens rows .demand1 .refusal 3 place tokens rows
+        (bad-byte admitted (fault-tiles language17 spelled17 source names (rw three at h)))))
     refused-fault number place h (inr (four, b)) =
         rw four
-        (sym (answer-meets source names tokens rows .demand1 .refusal 4 place tokens rows (open-string admitted (rw four at h))))
+        (sym (answer-meets source names tokens rows .demand1 .refusal 4 place tokens rows
+        (open-string admitted (fault-tiles language17 spelled17 source names (rw four at h)))))
 
     -- the tokens found, and that they are readable where the source ends clean
     abbrev all : List Token
     all = scan edition17 source .found
 
     all-readable : scan edition17 source .ending ≡ clean → Readable language17 source names all
-    all-readable h = record { admitted = admitted; scans = cleanly-found (scan edition17 source) h }
+    all-readable h = scan-readable language17 spelled17 source names admitted h
 
     refused-ending : (x : Ending) → scan edition17 source .ending ≡ x → (number place : ℕ)
         → withRoom (tokenRoom tokens) (endedWith (length all) x) ≡ Scanned.Refused number place
@@ -195,7 +198,7 @@ module _ (source names tokens rows : List ℕ) where
     rest-by ts us lent after answer rowsAfter same table readable room a t =
         rw (a, t, same, table)
         (rest-same source ts lent tokens rows (readTokens language17 levelLimit source names ts)
-        ∙ sym (read-result language17 source names levelLimit tokens rows ts readable room))
+        ∙ sym (read-result language17 source names levelLimit tokens rows fit17 (omega arith) ts readable room))
 
     -- the rows of the tokens are lent to the reading, and nothing else
     module _ (count : ℕ) (after : List ℕ) (said : tokenized edition17 source tokens ≡ Tokens count)
@@ -220,7 +223,7 @@ module _ (source names tokens rows : List ℕ) where
         lent-rows = own-rows source (found .tokens-found) count after tokens table-filled (found .counted-found)
 
         pub lent-scan : scan edition17 source ≡ cleanly (rowsOf (take (count * tokenWidth) after))
-        lent-scan = found .readable .scans ∙ rw lent-rows
+        lent-scan = readable-scan language17 spelled17 source names (found .readable) ∙ rw lent-rows
 
         -- No. 6 to 8, or acceptance
         pub read-rest : (answer : Answer) (rowsAfter : List ℕ)

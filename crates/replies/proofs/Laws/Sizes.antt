@@ -12,6 +12,7 @@ use borrow.Author.Tests.{le-leb}
 use Rattle.lexer.specs.Tests.{pick}
 use Rattle.lexer.specs.Text.{bytes}
 use Rattle.lexer.specs.Table.{tokenRoom}
+use Rattle.lexer.proofs.Laws.Counts.{spelled17}
 use Rattle.tree.specs.TreeTable.{Row, treeWidth, treeRoom, treeRows, placed, columnAt, treeRowAt}
 use Rattle.tree.specs.internal.RowKinds.{namedTypeRow}
 use Rattle.tree.proofs.Laws.Trees.{length-treeRows}
@@ -25,6 +26,7 @@ use Rattle.answer.specs.Demands.{Refusal, too-long, bad-names, bad-byte, open-s
 use Rattle.answer.specs.Demands.{Demands}
 use Rattle.answer.specs.declared.Answer.{Answer}
 use Rattle.answer.specs.declared.Answer.the-variants.{Accepted, Refused}
+use Rattle.answer.proofs.Laws.Readable.{readable-scan}
 use Rattle.answer.proofs.Theorem.{answer-meets}
 use Rattle.nurl.specs.Texts.{decimal, numberText, rowLine, rowLines, answerText, written, bytesWritten, overwritten}
 use Rattle.nurl.proofs.Laws.Texts.{overwritten-length, digits-of-ten, digits-of-more}
@@ -172,15 +174,16 @@ module _ (source names tokens rows : List ℕ) where
     accepted-fits : (t n : ℕ) → r .answer ≡ Accepted t n → length (answerText (Accepted t n) (r .rows)) ≤ textRoom
     accepted-fits t n h =
         let a = demands .demand2 .accepted t n h in
-        let ts = a .token-list in
+        let ts = a .token-table .token-list in
+        let scans = readable-scan language17 spelled17 source names (a .token-table .readable) in
         let rs = a .row-list in
         let few-tokens = a .room .for-tokens in
         let few-rows = a .room .for-rows rs (a .derived) in
         let token-count = a .token-count in
         let row-count = a .row-count in
-        let trees = theorems17 source names ts (a .readable .scans) .forest levelLimit rs (a .derived) in
+        let trees = theorems17 source names ts scans .forest levelLimit rs (a .derived) in
         let places = forest-places 5000 (omega arith) (omega arith) trees in
-        let kinds = theorems17 source names ts (a .readable .scans) .kinds levelLimit rs (a .derived) in
+        let kinds = theorems17 source names ts scans .kinds levelLimit rs (a .derived) in
         let size = placed-length rs rows few-rows in
         rw (a .row-table)
         (text-accepted t n (placed rs rows) (omega arith) (omega arith) (omega arith) (small-placed rs rows (small-rows rs kinds places) zeros))
