@@ -10,9 +10,12 @@ pub mod Marks
 pub mod Lexemes
 pub mod Sizes
 pub mod Scans
-pub mod Cover
+pub mod Gaps
 pub mod Places
 pub mod Longest
+pub mod Kept
+pub mod Cuts
+pub mod Tiles
 pub mod Counts
 pub mod Rows
 pub mod Fills

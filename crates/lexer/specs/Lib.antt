@@ -11,6 +11,7 @@ pub mod Words
 pub mod Numbers
 pub mod Lexemes
 pub mod Tokens
+pub mod Tiles
 pub mod Items
 pub mod Table
 pub mod Examples

@@ -1,7 +1,7 @@
 -- The tokens of a source, up to its first fault, and how it ends.
 use Prim.Native.Nat.{ℕ, zero, suc, _+_}
 use mathlib.Core.List.{List, [], _∷_}
-use lib.ListN.{length, take, drop}
+use lib.ListN.{length, drop}
 use Rattle.lexer.specs.Refusals.{refusalNumber}
 use Rattle.lexer.specs.Editions.{Edition}
 use Rattle.lexer.specs.Lexemes.{lexeme}
@@ -34,11 +34,6 @@ lexemesWithin e (suc m) s =
 -- each lexeme takes a byte at least, so that the length bounds their number
 unfoldable pub lexemes : Edition → List ℕ → List Lexeme
 lexemes e s = lexemesWithin e (length s) s
-
--- some bytes cut by the sizes of lexemes, in order
-unfoldable pub pieces : List ℕ → List Lexeme → List (List ℕ)
-pieces s [] = []
-pieces s (l ∷ ls) = take (lexemeSize l) s ∷ pieces (drop (lexemeSize l) s) ls
 
 -- a token: its kind, the offset of its first byte, and its size in bytes
 pub record Token : Type 0 where

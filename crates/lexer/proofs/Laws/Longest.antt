@@ -9,10 +9,10 @@ use mathlib.Core.Logic.{_≢_}
 use native.Mathlib.Nat.{le-refl, le-trans}
 use native.Mathlib.Omega.{arith}
 use lib.Dec.{eqb, ltb}
-use lib.ListN.{length, take, drop}
+use lib.ListN.{length, take}
 use borrow.Author.Tests.{eqb-true, ne-eqb, ltb-true, ltb-false}
 use Rattle.lexer.specs.Tests.{and, or, between, pick}
-use Rattle.lexer.specs.Bytes.{isSpace, isDigit, isLetter, isInLine, beginsEither, begins, run}
+use Rattle.lexer.specs.Bytes.{isSpace, isDigit, isLetter, beginsEither, begins, run}
 use Rattle.lexer.specs.Spellings.{Spelling, same, kindOf, longest, spelledMarks}
 use Rattle.lexer.specs.Editions.{Edition, edition17}
 use Rattle.lexer.specs.Words.{wordLength}
@@ -21,6 +21,7 @@ use Rattle.lexer.specs.Lexemes.{number, text, markOf, markUpTo, mark, or
 use Rattle.lexer.specs.Tokens.{lexemeSize}
 use Rattle.lexer.specs.declared.Lexeme.{Lexeme}
 use Rattle.lexer.specs.declared.Lexeme.the-variants.{End, Skipped, Token, BadByte, OpenString}
+use Rattle.lexer.proofs.Laws.Fronts.{begins-one}
 use Rattle.lexer.proofs.Laws.Lexemes.{no-spaces, no-comment, no-word, no-digits, no-text}
 use Rattle.lexer.proofs.Laws.Tests.{and-false, and-right, and-left, or-else, or-left, or-right, between-range}
 use Rattle.lexer.proofs.Laws.Sizes.{Proper, of-token, proper-unsigned}
@@ -136,14 +137,11 @@ module _ (b : ℕ) (t : List ℕ) where
   -- a comment has two bytes at least
   comment-long : fits (comment (b ∷ t)) ≡ true → 2 ≤ lexemeSize (comment (b ∷ t))
   unfolding comment lexemeSize
-  comment-long = either (and (begins (code "/") (b ∷ t)) (begins (code "/") t))
+  comment-long = either (and (begins (code "/") (b ∷ t)) (begins (code "/") t)) _
     where
-      found : Lexeme
-      found = Skipped (2 + run isInLine (drop 1 t))
-
-      either : (q : Bool) → fits (pick q found BadByte) ≡ true → 2 ≤ lexemeSize (pick q found BadByte)
-      either true f = omega arith
-      either false f = let z : _≡_ {A = ℕ} 0 1 = cc in absurd (omega arith)
+      either : (q : Bool) (n : ℕ) → fits (pick q (Skipped (2 + n)) BadByte) ≡ true → 2 ≤ lexemeSize (pick q (Skipped (2 + n)) BadByte)
+      either true n f = omega arith
+      either false n f = let z : _≡_ {A = ℕ} 0 1 = cc in absurd (omega arith)
 
 -- a number that begins with `-` has two bytes at least
 minus-long : (s : List ℕ) (l : Lexeme) → Proper s l → fits (withMinus l) ≡ true → 2 ≤ lexemeSize (withMinus l)
@@ -158,10 +156,6 @@ minus-long s OpenString p f = let z : _≡_ {A = ℕ} 0 1 = cc in absurd (omega 
 data Numeral (b : ℕ) (l : Lexeme) : Type 0 where
   plain : isDigit b ≡ true → Numeral b l
   negative : eqb b (code "-") ≡ true → 2 ≤ lexemeSize l → Numeral b l
-
-begins-one : (a b : ℕ) (t : List ℕ) → begins a (b ∷ t) ≡ true → eqb b a ≡ true
-unfolding beginsEither
-begins-one a b t = or-else (eqb b a) (eqb b a) (λ h. h) (λ h. h)
 
 fits-number : (e : Edition) (b : ℕ) (t : List ℕ) → fits (number e (b ∷ t)) ≡ true → Numeral b (number e (b ∷ t))
 unfolding number

@@ -12,7 +12,7 @@ use lib.ListN.{length, take, drop, length-drop, length-take}
 use borrow.Author.Tests.{ltb-true, leb-true}
 use Rattle.lexer.specs.Tests.{and, or, pick}
 use Rattle.lexer.specs.internal.Kinds.{ident, int, float, string, firstKind, lastKind}
-use Rattle.lexer.specs.Bytes.{isSpace, isDigit, isInLine, isInString, run, beginsEither}
+use Rattle.lexer.specs.Bytes.{isSpace, isDigit, isInString, run, beginsEither}
 use Rattle.lexer.specs.Spellings.{Spelling, same, kindOf, longest, reserved}
 use Rattle.lexer.specs.Editions.{Edition}
 use Rattle.lexer.specs.Words.{wordLength, orIdent, wordKind, identLength, twoColons, joinsWithin, joins}
@@ -68,23 +68,24 @@ unfolding spaces
 proper-spaces s = proper-spaces-of s (run isSpace s) (run-le isSpace s)
 
 -- both tests of a comment show a byte
-proper-comment-by : (s : List ℕ) (t : Bool) → and (beginsEither (code "/") (code "/") s) (beginsEither (code "/") (code "/") (drop 1 s)) ≡ t
-    → Proper s (pick t (Skipped (2 + run isInLine (drop 2 s))) BadByte)
+proper-comment-by : (p : ℕ → Bool) (s : List ℕ) (t : Bool)
+    → and (beginsEither (code "/") (code "/") s) (beginsEither (code "/") (code "/") (drop 1 s)) ≡ t
+    → Proper s (pick t (Skipped (2 + run p (drop 2 s))) BadByte)
 unfolding beginsEither and or
-proper-comment-by s false e = proper-bad
-proper-comment-by [] true e = let z : _≡_ {A = ℕ} 0 1 = cc in absurd (omega arith)
-proper-comment-by (a ∷ []) true e =
+proper-comment-by p s false e = proper-bad
+proper-comment-by p [] true e = let z : _≡_ {A = ℕ} 0 1 = cc in absurd (omega arith)
+proper-comment-by p (a ∷ []) true e =
     let e′ = sym (and-false (beginsEither (code "/") (code "/") (a ∷ []))) ∙ e in
     let z : _≡_ {A = ℕ} 0 1 = cc in
     absurd (omega arith)
-proper-comment-by (a ∷ b ∷ s) true e = proper-skip {n = 2 + run isInLine s} (omega arith) (let l = run-le isInLine s in omega arith)
+proper-comment-by p (a ∷ b ∷ s) true e = proper-skip {n = 2 + run p s} (omega arith) (let l = run-le p s in omega arith)
 
 proper-comment : (s : List ℕ) → Proper s (comment s)
 unfolding comment
-proper-comment s = proper-comment-by s _ refl
+proper-comment s = proper-comment-by _ s _ refl
 
 -- words
-ident-le : (s : List ℕ) → identLength s ≤ wordLength s
+pub ident-le : (s : List ℕ) → identLength s ≤ wordLength s
 unfolding identLength
 ident-le s = either (eqb (wordKind (take (wordLength s) s)) ident)
   where
@@ -195,6 +196,11 @@ pick-le false n l h = zero-le
 fraction-le : (s : List ℕ) → fraction s ≤ length s
 unfolding fraction
 fraction-le s = pick-le (beginsEither (code ".") (code ".") s) _ _ (with-le 1 (digits (drop 1 s)) (length s) (digits-le 1 s))
+
+pub sign-le : (s : List ℕ) → sign s ≤ length s
+unfolding sign beginsEither
+sign-le [] = zero-le
+sign-le (a ∷ s) = pick-le (or (eqb a (code "+")) (eqb a (code "-"))) 1 (suc (length s)) (omega arith)
 
 exponent-le : (s : List ℕ) → exponent s ≤ length s
 unfolding exponent

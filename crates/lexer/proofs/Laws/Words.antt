@@ -115,6 +115,12 @@ unfolding twoColons and
 colons-other a [] h = refl
 colons-other a (b ∷ s) h = rw (ne-eqb a (code ":") h)
 
+pub colons-short : (w : List ℕ) → length w < 2 → twoColons w ≡ false
+unfolding twoColons
+colons-short [] l = refl
+colons-short (a ∷ []) l = refl
+colons-short (a ∷ b ∷ w) l = absurd (omega arith)
+
 two-bytes : (t : List ℕ) → twoColons t ≡ true → 1 < length t
 unfolding twoColons
 two-bytes [] q = let z : _≡_ {A = ℕ} 0 1 = cc in absurd (omega arith)
