@@ -5,7 +5,8 @@ use Prim.Native.String.{String}
 use mathlib.Core.List.{List, [], _∷_}
 use Rattle.lexer.specs.Text.{bytes}
 use Rattle.lexer.specs.Kinds.{tokenKind}
-use Rattle.lexer.specs.Tokens.{Token, Scan, cleanly, faultAfter}
+use Rattle.lexer.specs.Tokens.{Token}
+use Rattle.lexer.specs.executable.Scans.{Scan, cleanly, faultAfter}
 
 pub record TokenExample : Type 0 where
   pub source : List ℕ

@@ -11,8 +11,8 @@ pub mod Words
 pub mod Numbers
 pub mod Lexemes
 pub mod Tokens
-pub mod Tiles
 pub mod Items
 pub mod Table
 pub mod Examples
+pub mod executable
 pub mod internal

@@ -1,39 +1,16 @@
--- The tokens of a source, up to its first fault, and how it ends.
-use Prim.Native.Nat.{ℕ, zero, suc, _+_}
-use mathlib.Core.List.{List, [], _∷_}
-use lib.ListN.{length, drop}
+-- The tokens of a source: it is gaps and tokens in turn, up to its end or its first fault, so that every byte is accounted for once.
+use Prim.Native.Char.{code}
+use Prim.Native.Nat.{ℕ, suc, _+_}
+use mathlib.Core.Path.{_≡_}
+use mathlib.Core.Bool.{true}
+use mathlib.Core.List.{List, [], _∷_, _++_}
+use lib.ListN.{length}
 use Rattle.lexer.specs.Refusals.{refusalNumber}
+use Rattle.lexer.specs.Bytes.{isSpace, isInLine, run}
 use Rattle.lexer.specs.Editions.{Edition}
 use Rattle.lexer.specs.Lexemes.{lexeme}
 use Rattle.lexer.specs.declared.Lexeme.{Lexeme}
-use Rattle.lexer.specs.declared.Lexeme.the-variants.{End, Skipped, BadByte, OpenString}
-
--- how many bytes a lexeme takes
-unfoldable pub lexemeSize : Lexeme → ℕ
-lexemeSize End = 0
-lexemeSize (Skipped n) = n
-lexemeSize (Lexeme.Token k n) = n
-lexemeSize BadByte = 0
-lexemeSize OpenString = 0
-
--- a lexeme before those of the bytes after it; a fault ends the list
-unfoldable pub follow : Lexeme → List Lexeme → List Lexeme
-follow End rest = []
-follow (Skipped n) rest = Skipped n ∷ rest
-follow (Lexeme.Token k n) rest = Lexeme.Token k n ∷ rest
-follow BadByte rest = BadByte ∷ []
-follow OpenString rest = OpenString ∷ []
-
--- the lexemes of some bytes in order, at most so many
-unfoldable pub lexemesWithin : Edition → ℕ → List ℕ → List Lexeme
-lexemesWithin e zero s = []
-lexemesWithin e (suc m) s =
-    let rest = lexemesWithin e m (drop (lexemeSize (lexeme e s)) s) in
-    follow (lexeme e s) rest
-
--- each lexeme takes a byte at least, so that the length bounds their number
-unfoldable pub lexemes : Edition → List ℕ → List Lexeme
-lexemes e s = lexemesWithin e (length s) s
+use Rattle.lexer.specs.declared.Lexeme.the-variants.{BadByte, OpenString}
 
 -- a token: its kind, the offset of its first byte, and its size in bytes
 pub record Token : Type 0 where
@@ -46,31 +23,20 @@ pub data Ending : Type 0 where
   clean : Ending
   fault : ℕ → ℕ → Ending
 
--- what a source is: the tokens found, up to its first fault if it has one, and how it ends
-pub record Scan : Type 0 where
-  pub found : List Token
-  pub ending : Ending
-
--- these tokens, and no fault
-abbrev pub cleanly : List Token → Scan
-cleanly ts = record { found = ts; ending = clean }
-
--- these tokens, and then a fault
-abbrev pub faultAfter : List Token → ℕ → ℕ → Scan
-faultAfter ts number place = record { found = ts; ending = fault number place }
-
-unfoldable pub withToken : Token → Scan → Scan
-withToken t x = record { found = t ∷ x .found; ending = x .ending }
-
--- lexemes in order, the first of them at an offset, as tokens in their places
-unfoldable pub located : ℕ → List Lexeme → Scan
-located at [] = cleanly []
-located at (End ∷ ls) = cleanly []
-located at (Skipped n ∷ ls) = located (at + n) ls
-located at (Lexeme.Token k n ∷ ls) = withToken (record { kind = k; start = at; size = n }) (located (at + n) ls)
-located at (BadByte ∷ ls) = faultAfter [] (refusalNumber "bad byte") at
-located at (OpenString ∷ ls) = faultAfter [] (refusalNumber "open string") at
-
--- the tokens of a source, up to its first fault, and how it ends
-unfoldable pub scan : Edition → List ℕ → Scan
-scan e s = located 0 (lexemes e s)
+-- `Tiles e at s ts x`: the bytes s, the first of them at offset `at`, are gaps and the tokens ts in turn, and end as x says. A gap is
+-- spaces and comments and nothing else, and may be empty.
+pub data Tiles (e : Edition) : ℕ → List ℕ → List Token → Ending → Type 0 where
+  ended : {at : ℕ} → Tiles e at [] [] clean
+  -- "Skipped: bytes 32, 9, 10, 13"
+  skips-space : {at b : ℕ} {s : List ℕ} {ts : List Token} {x : Ending}
+      → isSpace b ≡ true → Tiles e (suc at) s ts x → Tiles e at (b ∷ s) ts x
+  -- "`//` up to byte 10 or the end"
+  skips-comment : {at : ℕ} (line : List ℕ) {s : List ℕ} {ts : List Token} {x : Ending} → run isInLine (line ++ s) ≡ length line
+      → Tiles e (at + (2 + length line)) s ts x → Tiles e at (code "/" ∷ code "/" ∷ (line ++ s)) ts x
+  -- A token: its kind is the kind of its text, which is as long as it can be where it stands. An empty text has no kind.
+  finds-token : {at kind : ℕ} (text : List ℕ) {s : List ℕ} {ts : List Token} {x : Ending}
+      → lexeme e text ≡ Lexeme.Token kind (length text) → lexeme e (text ++ s) ≡ Lexeme.Token kind (length text)
+      → Tiles e (at + length text) s ts x → Tiles e at (text ++ s) (record { kind = kind; start = at; size = length text } ∷ ts) x
+  -- "a byte begins no token, space or comment", "a string is not closed"
+  meets-bad-byte : {at : ℕ} {s : List ℕ} → lexeme e s ≡ BadByte → Tiles e at s [] (fault (refusalNumber "bad byte") at)
+  meets-open-string : {at : ℕ} {s : List ℕ} → lexeme e s ≡ OpenString → Tiles e at s [] (fault (refusalNumber "open string") at)

@@ -9,7 +9,8 @@ ghost use mathlib.Core.Path.{_≡_};
 ghost use Prim.Native.Nat.{_+_, _*_, _≤_};
 ghost use lib.ListN.{length};
 ghost use Rattle.lexer.specs.Editions.{edition17};
-ghost use Rattle.lexer.specs.Tokens.{Scan, clean, scan};
+ghost use Rattle.lexer.specs.Tokens.{clean};
+ghost use Rattle.lexer.specs.executable.Scans.{Scan, scan};
 ghost use Rattle.lexer.specs.Table.{sourceLimit, tokenWidth, filled};
 ghost use Rattle.lexer.specs.internal.Tokenized.{scannedValues, counted, countedValues, tokenized, tokenizedValues, tableAfter};
 

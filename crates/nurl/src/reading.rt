@@ -10,7 +10,7 @@ ghost use mathlib.Core.Path.{_≡_};
 ghost use Prim.Native.Nat.{_+_, _≤_};
 ghost use lib.ListN.{length, replicate};
 ghost use Rattle.lexer.specs.Editions.{edition17};
-ghost use Rattle.lexer.specs.Tokens.{cleanly, scan};
+ghost use Rattle.lexer.specs.executable.Scans.{cleanly, scan};
 ghost use Rattle.lexer.specs.Table.{sourceLimit};
 ghost use Rattle.lexer.specs.internal.TokenRows.{rowsOf};
 ghost use Rattle.typenames.specs.NameList.{nameLimit};

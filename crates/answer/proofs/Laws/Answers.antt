@@ -70,7 +70,7 @@ module _ (l : Language) (source names : List ℕ) (limit : ℕ) (tokens rows : L
     table = λ (h : 6 ≤ number). absurd (omega arith);
   }
 
-  table-of : (ts : List Token) → Readable l source names ts → TokenTable l source names limit tokens rows (filled source ts tokens)
+  abbrev table-of : (ts : List Token) → Readable l source names ts → TokenTable l source names limit tokens rows (filled source ts tokens)
   table-of ts r = record { token-list = ts; readable = r; numbers = refl }
 
   module _ (fit : Fit l) (some : 1 ≤ limit) where
@@ -107,18 +107,18 @@ module _ (l : Language) (source names : List ℕ) (limit : ℕ) (tokens rows : L
     refusal-says number place ta ra (no-program {ts = us} r room h) = record {
       six = λ e ts k. subst (λ (vs : List Token). NoProgramOf l source names vs limit place)
           (readable-same l (fit .marks) source names us ts r k) h;
-      seven = λ (e : 6 ≡ 7). absurd (omega arith);
+      seven = λ (e : _≡_ {A = ℕ} 6 7). absurd (omega arith);
       table = λ e. table-of us r;
     }
     refusal-says number place ta ra (too-deep {ts = us} r room h) = record {
-      six = λ (e : 7 ≡ 6). absurd (omega arith);
+      six = λ (e : _≡_ {A = ℕ} 7 6). absurd (omega arith);
       seven = λ e ts k. subst (λ (vs : List Token). TooDeepOf l source names vs limit place)
           (readable-same l (fit .marks) source names us ts r k) h;
       table = λ e. table-of us r;
     }
     refusal-says number place ta ra (few-tree-rows {ts = us} r room d few) = record {
-      six = λ (e : 8 ≡ 6). absurd (omega arith);
-      seven = λ (e : 8 ≡ 7). absurd (omega arith);
+      six = λ (e : _≡_ {A = ℕ} 8 6). absurd (omega arith);
+      seven = λ (e : _≡_ {A = ℕ} 8 7). absurd (omega arith);
       table = λ e. table-of us r;
     }
 

@@ -133,7 +133,9 @@ reads-first-violates meets =
     let list = readable-same language17 spelled17 two [] (said .token-table .token-list) (due .token-table .token-list)
     (said .token-table .readable) (due .token-table .readable) in
     let only = answer-meets two [] lentTokens lentRows .demand3 .only 10 5 due 200 (said .row-list) (rw list at (said .derived)) in
-    let same = ap (λ (numbers : List ℕ). getD numbers 8 0) (due .row-table ∙ rw (← only) (sym (said .row-table))) in
+    let table : answer17 two [] lentTokens lentRows .rows ≡ readsFirst two [] lentTokens lentRows .rows =
+    due .row-table ∙ rw (← only) (sym (said .row-table)) in
+    let same = ap (λ (numbers : List ℕ). getD numbers 8 0) table in
     let written = two-written in
     let kept = two-kept in
     absurd (omega arith)

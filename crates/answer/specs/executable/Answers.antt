@@ -6,7 +6,8 @@ use lib.Dec.{leb, ltb}
 use lib.ListN.{length}
 use Rattle.lexer.specs.Refusals.{refusalNumber}
 use Rattle.lexer.specs.Tests.{pick}
-use Rattle.lexer.specs.Tokens.{Token, Ending, clean, fault, scan}
+use Rattle.lexer.specs.Tokens.{Token, Ending, clean, fault}
+use Rattle.lexer.specs.executable.Scans.{scan}
 use Rattle.lexer.specs.Table.{sourceLimit, tokenRoom, filled}
 use Rattle.typenames.specs.NameList.{checked}
 use Rattle.typenames.specs.declared.Checked.{Checked}

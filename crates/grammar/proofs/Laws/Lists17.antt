@@ -9,7 +9,7 @@ use Rattle.lexer.specs.Text.{bytes}
 use Rattle.lexer.specs.Spellings.{same}
 use Rattle.lexer.specs.Words.{asName, sameName, twoColons}
 use Rattle.lexer.specs.Editions.{edition17}
-use Rattle.lexer.specs.Tokens.{scan}
+use Rattle.lexer.specs.executable.Scans.{scan}
 use Rattle.lexer.specs.Items.{itemOf, items}
 use Rattle.lexer.proofs.Laws.Examples.{scans}
 use Rattle.typenames.specs.NameList.{push, split, entries}

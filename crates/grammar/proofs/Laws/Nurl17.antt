@@ -3,7 +3,8 @@ use Prim.Native.Nat.{ℕ}
 use mathlib.Core.Path.{_≡_}
 use mathlib.Core.List.{List}
 use Rattle.lexer.specs.Editions.{edition17}
-use Rattle.lexer.specs.Tokens.{Token, cleanly, scan}
+use Rattle.lexer.specs.Tokens.{Token}
+use Rattle.lexer.specs.executable.Scans.{cleanly, scan}
 use Rattle.lexer.proofs.Laws.Counts.{spelled17}
 use Rattle.tree.specs.internal.RowKinds.{programRow, namedTypeRow}
 use Rattle.grammar.specs.Languages.{language17}

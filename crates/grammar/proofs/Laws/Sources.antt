@@ -5,7 +5,8 @@ use mathlib.Core.Path.{_≡_}
 use mathlib.Core.Bool.{true}
 use mathlib.Core.List.{List, [], _∷_}
 use lib.ListN.{length}
-use Rattle.lexer.specs.Tokens.{Token, cleanly, scan}
+use Rattle.lexer.specs.Tokens.{Token}
+use Rattle.lexer.specs.executable.Scans.{cleanly, scan}
 use Rattle.lexer.specs.Items.{Item, items}
 use Rattle.lexer.proofs.Laws.Sizes.{spelled}
 use Rattle.lexer.proofs.Laws.Places.{tokens-placed}

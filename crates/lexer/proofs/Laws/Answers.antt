@@ -9,7 +9,8 @@ use lib.ListN.{length}
 use borrow.Author.Tests.{le-leb, lt-leb, ltb-false}
 use Rattle.lexer.specs.Tests.{pick}
 use Rattle.lexer.specs.Editions.{Edition}
-use Rattle.lexer.specs.Tokens.{Ending, clean, fault, scan}
+use Rattle.lexer.specs.Tokens.{Ending, clean, fault}
+use Rattle.lexer.specs.executable.Scans.{scan}
 use Rattle.lexer.specs.Table.{sourceLimit, tokenRoom, filled}
 use Rattle.lexer.specs.internal.Tokenized.{endedWith, scanned, counted, withRoom, tokenized, afterAnswer, tableAfter}
 use Rattle.lexer.specs.declared.Scanned.{Scanned}

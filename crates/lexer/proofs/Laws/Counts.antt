@@ -10,7 +10,8 @@ use Rattle.lexer.specs.Tests.{and}
 use Rattle.lexer.specs.Spellings.{spelledMarks}
 use Rattle.lexer.specs.Editions.{edition17}
 use Rattle.lexer.specs.Lexemes.{lexeme}
-use Rattle.lexer.specs.Tokens.{Token, Ending, clean, fault, Scan, withToken, scan}
+use Rattle.lexer.specs.Tokens.{Token, Ending, clean, fault}
+use Rattle.lexer.specs.executable.Scans.{Scan, withToken, scan}
 use Rattle.lexer.specs.internal.Tokenized.{endedWith, scanned}
 use Rattle.lexer.specs.declared.Lexeme.{Lexeme}
 use Rattle.lexer.specs.declared.Lexeme.the-variants.{End, Skipped, BadByte, OpenString}

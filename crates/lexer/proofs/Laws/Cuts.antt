@@ -19,7 +19,7 @@ use Rattle.lexer.specs.Words.{wordLength, wordKind, identLength, twoColo
 use Rattle.lexer.specs.Numbers.{digits, withDigits, fraction, sign, exponent}
 use Rattle.lexer.specs.Lexemes.{skippedSpaces, spaces, comment, wordOf, word, numberOf, unsignedNumber, withMinus, number, text}
 use Rattle.lexer.specs.Lexemes.{markOf, markUpTo, mark, lexeme}
-use Rattle.lexer.specs.Tokens.{lexemeSize}
+use Rattle.lexer.specs.executable.Scans.{lexemeSize}
 use Rattle.lexer.specs.declared.Lexeme.{Lexeme}
 use Rattle.lexer.specs.declared.Lexeme.the-variants.{Skipped, Token, BadByte, OpenString}
 use Rattle.lexer.proofs.Laws.Tests.{and-false}

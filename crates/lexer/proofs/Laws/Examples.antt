@@ -9,7 +9,7 @@ use Rattle.lexer.specs.Words.{wordLength, orIdent, wordKind, identLength
 use Rattle.lexer.specs.Numbers.{withDigits, fraction, sign, exponent}
 use Rattle.lexer.specs.Lexemes.{skippedSpaces, spaces, comment, wordOf, word, numberOf, unsignedNumber, withMinus, number, text}
 use Rattle.lexer.specs.Lexemes.{markOf, markUpTo, mark, orElse, lexeme}
-use Rattle.lexer.specs.Tokens.{lexemeSize, follow, lexemesWithin, lexemes, Scan, withToken, located, scan}
+use Rattle.lexer.specs.executable.Scans.{lexemeSize, follow, lexemesWithin, lexemes, Scan, withToken, located, scan}
 use Rattle.lexer.specs.Examples.{TokenExample, tokenExamples}
 
 -- `scan`, opened down to its parts: whoever computes with the lexical rules unfolds this one name

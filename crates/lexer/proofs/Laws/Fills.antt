@@ -8,7 +8,8 @@ use lib.ListN.{length, take, drop, length-drop}
 use lib.Seq.{sets, length-take-le, take-all}
 use Rattle.lexer.specs.Editions.{edition17}
 use Rattle.lexer.specs.Lexemes.{lexeme}
-use Rattle.lexer.specs.Tokens.{Token, Scan, clean, cleanly, withToken, scan}
+use Rattle.lexer.specs.Tokens.{Token, clean}
+use Rattle.lexer.specs.executable.Scans.{Scan, cleanly, withToken, scan}
 use Rattle.lexer.specs.Table.{tokenWidth, tokenRow, filled}
 use Rattle.lexer.specs.declared.Lexeme.{Lexeme}
 use Rattle.lexer.specs.declared.Lexeme.the-variants.{End, Skipped, BadByte, OpenString}

@@ -2,7 +2,7 @@
 use Prim.Native.Nat.{ℕ, _≤_, zero-le}
 use mathlib.Core.Path.{_≡_}
 use Rattle.lexer.specs.Lexemes.{orElse}
-use Rattle.lexer.specs.Tokens.{lexemeSize}
+use Rattle.lexer.specs.executable.Scans.{lexemeSize}
 use Rattle.lexer.specs.declared.Lexeme.{Lexeme}
 use Rattle.lexer.specs.declared.Lexeme.the-variants.{End, Skipped, Token, BadByte, OpenString}
 

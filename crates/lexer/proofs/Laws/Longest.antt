@@ -18,7 +18,7 @@ use Rattle.lexer.specs.Editions.{Edition, edition17}
 use Rattle.lexer.specs.Words.{wordLength}
 use Rattle.lexer.specs.Lexemes.{skippedSpaces, spaces, comment, wordOf, word, numberOf, unsignedNumber, withMinus}
 use Rattle.lexer.specs.Lexemes.{number, text, markOf, markUpTo, mark, orElse, lexeme}
-use Rattle.lexer.specs.Tokens.{lexemeSize}
+use Rattle.lexer.specs.executable.Scans.{lexemeSize}
 use Rattle.lexer.specs.declared.Lexeme.{Lexeme}
 use Rattle.lexer.specs.declared.Lexeme.the-variants.{End, Skipped, Token, BadByte, OpenString}
 use Rattle.lexer.proofs.Laws.Fronts.{begins-one}

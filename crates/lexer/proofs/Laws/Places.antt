@@ -11,7 +11,8 @@ use lib.ListN.{length, drop, length-drop, drop-of-length-le}
 use Rattle.lexer.specs.internal.Kinds.{firstKind, lastKind}
 use Rattle.lexer.specs.Editions.{Edition}
 use Rattle.lexer.specs.Lexemes.{lexeme}
-use Rattle.lexer.specs.Tokens.{Token, Ending, clean, fault, Scan, cleanly, withToken, scan}
+use Rattle.lexer.specs.Tokens.{Token, Ending, clean, fault}
+use Rattle.lexer.specs.executable.Scans.{Scan, cleanly, withToken, scan}
 use Rattle.lexer.specs.declared.Lexeme.{Lexeme}
 use Rattle.lexer.specs.declared.Lexeme.the-variants.{End, Skipped, BadByte, OpenString}
 use Rattle.lexer.proofs.Laws.Sizes.{of-token, of-skip, spelled, proper}

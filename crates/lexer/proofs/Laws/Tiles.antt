@@ -10,8 +10,9 @@ use lib.Seq.{length-take-le, drop-append-seam}
 use Rattle.lexer.specs.Bytes.{isSpace, isInLine, run}
 use Rattle.lexer.specs.Editions.{Edition}
 use Rattle.lexer.specs.Lexemes.{lexeme}
-use Rattle.lexer.specs.Tokens.{Token, Ending, Scan, withToken, scan}
-use Rattle.lexer.specs.Tiles.{Tiles, ended, space, comment, token, bad-byte, open-string}
+use Rattle.lexer.specs.Tokens.{Token, Ending}
+use Rattle.lexer.specs.executable.Scans.{Scan, withToken, scan}
+use Rattle.lexer.specs.Tokens.{Tiles, ended, skips-space, skips-comment, finds-token, meets-bad-byte, meets-open-string}
 use Rattle.lexer.specs.declared.Lexeme.{Lexeme}
 use Rattle.lexer.specs.declared.Lexeme.the-variants.{End, Skipped, BadByte, OpenString}
 use Rattle.lexer.proofs.Laws.Runs.{run-le}
@@ -31,13 +32,13 @@ TiledUpTo e n = (at : ℕ) (s : List ℕ) → length s ≤ n → Tiled e at s (s
 -- a comment or a token at the front, and the bytes after it
 module _ (e : Edition) (at n : ℕ) (s front rest : List ℕ) (whole : front ++ rest ≡ s) (size : length front ≡ n) (x : Scan) where
   comment-front : run isInLine s ≡ n → Tiled e (at + (2 + n)) rest x → Tiled e at (code "/" ∷ code "/" ∷ s) x
-  comment-front stops after = rw (← whole) (comment front {s = rest} (rw whole (stops ∙ sym size)) (rw (← size) at after))
+  comment-front stops after = rw (← whole) (skips-comment front {s = rest} (rw whole (stops ∙ sym size)) (rw (← size) at after))
 
   token-front : (k : ℕ) → lexeme e front ≡ Lexeme.Token k n → lexeme e s ≡ Lexeme.Token k n → Tiled e (at + n) rest x
       → Tiled e at s (withToken (record { kind = k; start = at; size = n }) x)
   unfolding withToken
   token-front k alone here after =
-      rw (← whole, ← size) (token front (rw (← size) at alone) (rw (← whole, ← size) at here) (rw (← size) at after))
+      rw (← whole, ← size) (finds-token front (rw (← size) at alone) (rw (← whole, ← size) at here) (rw (← size) at after))
 
 module _ (e : Edition) (good : spelled (e .marks) ≡ true) where
   tiled-nil : (at : ℕ) → Tiled e at [] (scanAt e at [])
@@ -69,11 +70,11 @@ module _ (e : Edition) (good : spelled (e .marks) ≡ true) where
           let l = length-drop 1 t in
           rw (skipped-slashes e b t m other h) (tiled-comment (drop 1 t) (omega arith))
       tiled-other other (Lexeme.Token k m) h = tiled-token (b ∷ t) (omega arith) k m h
-      tiled-other other BadByte h = rw (at-bad e good at (b ∷ t) h) (bad-byte h)
-      tiled-other other OpenString h = rw (at-open e good at (b ∷ t) h) (open-string h)
+      tiled-other other BadByte h = rw (at-bad e good at (b ∷ t) h) (meets-bad-byte h)
+      tiled-other other OpenString h = rw (at-open e good at (b ∷ t) h) (meets-open-string h)
 
       tiled-cons : (q : Bool) → isSpace b ≡ q → Tiled e at (b ∷ t) (scanAt e at (b ∷ t))
-      tiled-cons true h = rw (space-passed e good at b t h) (space h (after (suc at) t near))
+      tiled-cons true h = rw (space-passed e good at b t h) (skips-space h (after (suc at) t near))
       tiled-cons false h = tiled-other h (lexeme e (b ∷ t)) refl
 
   tiled : (n : ℕ) → TiledUpTo e n
@@ -90,13 +91,13 @@ module _ (e : Edition) (good : spelled (e .marks) ≡ true) where
   at-tiles : {at : ℕ} {s : List ℕ} {ts : List Token} {x : Ending} → Tiles e at s ts x → scanAt e at s ≡ record { found = ts; ending = x }
   unfolding lexeme withToken
   at-tiles {at} ended = at-end e good at [] refl
-  at-tiles {at} (space {b = b} {s = s} h after) = space-passed e good at b s h ∙ at-tiles after
-  at-tiles {at} (comment line {s = s} stops after) =
+  at-tiles {at} (skips-space {b = b} {s = s} h after) = space-passed e good at b s h ∙ at-tiles after
+  at-tiles {at} (skips-comment line {s = s} stops after) =
       comment-passed e good at (line ++ s) ∙ rw (stops, drop-append-seam line s) (at-tiles after)
-  at-tiles {at} (token {kind = k} text {s = s} alone here after) =
+  at-tiles {at} (finds-token {kind = k} text {s = s} alone here after) =
       at-token e good at (text ++ s) k (length text) here ∙ rw (drop-append-seam text s, at-tiles after)
-  at-tiles {at} {s} (bad-byte h) = at-bad e good at s h
-  at-tiles {at} {s} (open-string h) = at-open e good at s h
+  at-tiles {at} {s} (meets-bad-byte h) = at-bad e good at s h
+  at-tiles {at} {s} (meets-open-string h) = at-open e good at s h
 
   -- .. so of a source they are those of its scan
   pub tiles-scan : (s : List ℕ) (ts : List Token) (x : Ending) → Tiles e 0 s ts x → scan e s ≡ record { found = ts; ending = x }

@@ -6,7 +6,8 @@ use lib.ListN.{length}
 use Rattle.lexer.specs.Refusals.{refusalNumber}
 use Rattle.lexer.specs.Tests.{pick}
 use Rattle.lexer.specs.Editions.{Edition}
-use Rattle.lexer.specs.Tokens.{Token, Ending, clean, fault, Scan, scan}
+use Rattle.lexer.specs.Tokens.{Token, Ending, clean, fault}
+use Rattle.lexer.specs.executable.Scans.{Scan, scan}
 use Rattle.lexer.specs.declared.Scanned.{Scanned}
 use Rattle.lexer.specs.declared.Scanned.the-variants.{Tokens, Refused}
 use Rattle.lexer.specs.Table.{sourceLimit, tokenRoom, filled}

@@ -10,7 +10,8 @@ use lib.ListN.{length, take}
 use borrow.Author.Tests.{leb-true, leb-false, ltb-false, le-ltb}
 use Rattle.lexer.specs.Tests.{pick}
 use Rattle.lexer.specs.Editions.{edition17}
-use Rattle.lexer.specs.Tokens.{Token, Ending, clean, fault, cleanly, scan}
+use Rattle.lexer.specs.Tokens.{Token, Ending, clean, fault}
+use Rattle.lexer.specs.executable.Scans.{cleanly, scan}
 use Rattle.lexer.specs.Table.{sourceLimit, tokenWidth, tokenRoom, filled}
 use Rattle.lexer.specs.internal.TokenRows.{rowsOf}
 use Rattle.lexer.specs.internal.Tokenized.{endedWith, scanned, counted, withRoom, afterAnswer, tokenized, tableAfter}

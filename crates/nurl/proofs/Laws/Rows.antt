@@ -12,7 +12,8 @@ use borrow.Author.Tests.{le-leb, lt-leb}
 use Rattle.lexer.specs.Tests.{and, between}
 use Rattle.lexer.specs.internal.Kinds.{firstKind, lastKind}
 use Rattle.lexer.specs.Editions.{edition17}
-use Rattle.lexer.specs.Tokens.{Token, cleanly, scan}
+use Rattle.lexer.specs.Tokens.{Token}
+use Rattle.lexer.specs.executable.Scans.{cleanly, scan}
 use Rattle.lexer.specs.Table.{sourceLimit, tokenRoom}
 use Rattle.lexer.specs.internal.TokenRows.{rowsOf, rowAt, noToken}
 use Rattle.lexer.specs.Items.{Item, items}
