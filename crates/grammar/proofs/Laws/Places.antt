@@ -94,7 +94,7 @@ module _ (g : List Production) (h : Hints) (bound x : ℕ) (tests : Passes g h b
   stuck-no-program n i r = record {
     none = λ (m : ℕ) (rows : List Row). stuck-none g h bound x tests v count steady tokens e n i m rows r;
     reached = reached-whole (ends-stuck (reading-comes n (stuck i) r));
-    furthest = stuck-furthest n i r;
+    furthest = λ (m p : ℕ) (d : Reached g v e x m p). let most = stuck-furthest n i r m p d in omega arith;
   }
 
   -- .. and where it is too deep, that.

@@ -21,10 +21,10 @@ module _ (g : List Production) (v : View) where
   comes zero e n ss i = out tt
   comes (suc fuel) e n [] i = upTo end
   comes (suc fuel) e n (token cs ∷ ss) i =
-      ends-pick (among cs (v .class e i)) (readWithin g v fuel e n ss (suc i)) i stops (λ (t : among cs (v .class e i) ≡ true).
+      ends-pick (among cs (v .class e i)) (readWithin g v fuel e n ss (suc i)) _ stops (λ (t : among cs (v .class e i) ≡ true).
       ends-each (comes fuel e n ss (suc i)) (λ (j : ℕ) (rows : List Row) (said : ℕ). taken t) (λ (p : ℕ). takes t) (λ (p : ℕ). takes t))
   comes (suc fuel) e n (condition b q ∷ ss) i =
-      ends-pick (met v e i b q) (readWithin g v fuel e n ss i) i stops (λ (t : met v e i b q ≡ true).
+      ends-pick (met v e i b q) (readWithin g v fuel e n ss i) _ stops (λ (t : met v e i b q ≡ true).
       ends-each (comes fuel e n ss i) (λ (j : ℕ) (rows : List Row) (said : ℕ). held t) (λ (p : ℕ). meets t) (λ (p : ℕ). meets t))
   comes (suc fuel) e n (derived x ∷ ss) i =
       ends-enter (choice g v (v .inside x i e) x i) n i _ stops (λ p c l. stops) (λ (q : Production) (left : ℕ)
