@@ -1,7 +1,7 @@
 -- The answer for any source, list of names and two lent tables, and what both tables hold afterwards, computed: document 01's table
 -- of refusals, in its order.
 use Prim.Native.Nat.{ℕ}
-use mathlib.Core.List.{List, [], _∷_}
+use mathlib.Core.List.{List}
 use lib.Dec.{leb, ltb}
 use lib.ListN.{length}
 use Rattle.lexer.specs.Refusals.{refusalNumber}

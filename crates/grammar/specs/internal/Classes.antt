@@ -1,8 +1,8 @@
 -- The sets of tokens of the table of NURL as constants.
 use Prim.Native.Nat.{ℕ}
 use mathlib.Core.List.{List, [], _∷_}
-use Rattle.lexer.specs.internal.Kinds.{ident, keyword, boolean, int, float, string, ampersand, percent, bar, star, plus, minus, slash, less}
-use Rattle.lexer.specs.internal.Kinds.{greater, equalEqual, bangEqual, lessEqual, greaterEqual, lessLess, greaterGreater}
+use Rattle.lexer.specs.internal.Kinds.{ident, keyword, boolean, int, float, string, ampersand, percent, bar, star, plus, minus, slash}
+use Rattle.lexer.specs.internal.Kinds.{less, greater, equalEqual, bangEqual, lessEqual, greaterEqual, lessLess, greaterGreater}
 use Rattle.grammar.specs.Classes.{typeName}
 
 -- any IDENT

@@ -9,9 +9,9 @@ use lib.ListN.{length, drop, length-drop}
 use lib.Seq.{drop-drop}
 use Rattle.lexer.specs.Editions.{Edition}
 use Rattle.lexer.specs.Lexemes.{lexeme}
-use Rattle.lexer.specs.executable.Scans.{lexemeSize, follow, lexemesWithin, lexemes, located, scan}
+use Rattle.lexer.specs.executable.Scans.{lexemeSize, follow, lexemesWithin, lexemes, located, scan, Scan, cleanly, faultAfter}
+use Rattle.lexer.specs.executable.Scans.{withToken}
 use Rattle.lexer.specs.Tokens.{Token, Ending, clean}
-use Rattle.lexer.specs.executable.Scans.{Scan, cleanly, faultAfter, withToken}
 use Rattle.lexer.specs.declared.Lexeme.{Lexeme}
 use Rattle.lexer.specs.declared.Lexeme.the-variants.{End, Skipped, BadByte, OpenString}
 use Rattle.lexer.proofs.Laws.Sizes.{Proper, of-token, of-skip, spelled, proper}

@@ -10,9 +10,9 @@ use lib.Seq.{length-take-le, drop-append-seam}
 use Rattle.lexer.specs.Bytes.{isSpace, isInLine, run}
 use Rattle.lexer.specs.Editions.{Edition}
 use Rattle.lexer.specs.Lexemes.{lexeme}
-use Rattle.lexer.specs.Tokens.{Token, Ending}
+use Rattle.lexer.specs.Tokens.{Token, Ending, Tiles, ended, skips-space, skips-comment, finds-token, meets-bad-byte}
+use Rattle.lexer.specs.Tokens.{meets-open-string}
 use Rattle.lexer.specs.executable.Scans.{Scan, withToken, scan}
-use Rattle.lexer.specs.Tokens.{Tiles, ended, skips-space, skips-comment, finds-token, meets-bad-byte, meets-open-string}
 use Rattle.lexer.specs.declared.Lexeme.{Lexeme}
 use Rattle.lexer.specs.declared.Lexeme.the-variants.{End, Skipped, BadByte, OpenString}
 use Rattle.lexer.proofs.Laws.Runs.{run-le}

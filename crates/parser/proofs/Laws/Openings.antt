@@ -6,8 +6,8 @@ use mathlib.Core.Bool.{true}
 use mathlib.Core.List.{List, [], _∷_}
 use lib.Dec.{eqb}
 use Rattle.lexer.specs.Tests.{and, or, among}
-use Rattle.lexer.specs.internal.Kinds.{keyword, sizeof, dollar, ampersand, at, colon, equal, semicolon, tilde, leftParen, leftBracket, bang}
-use Rattle.lexer.specs.internal.Kinds.{caret, backslash, question, dot, hash, star, questionQuestion}
+use Rattle.lexer.specs.internal.Kinds.{keyword, sizeof, dollar, ampersand, at, colon, equal, semicolon, tilde, leftParen, leftBracket}
+use Rattle.lexer.specs.internal.Kinds.{bang, caret, backslash, question, dot, hash, star, questionQuestion}
 use Rattle.grammar.specs.internal.Nonterminals.{type, expression, statement, declaration}
 use Rattle.grammar.specs.internal.Classes.{name, declaredWord, operators}
 use Rattle.grammar.specs.internal.Alternatives.{kindAlternative}

@@ -9,8 +9,8 @@ use Rattle.lexer.specs.internal.TokenRows.{rowsOf}
 use Rattle.grammar.specs.Grammars.{Condition, Names, View, agrees, asked, met}
 use Rattle.grammar.specs.Languages.{language17}
 use Rattle.grammar.specs.Sources.{viewOf}
-use Rattle.parser.specs.internal.Steps.{Small, Spans, small, over, spans, from-refused, to-refused, opened, Within, inside, elsewhere}
-use Rattle.parser.specs.internal.Steps.{nextKind, askedAt, takenBy, takenKind, takenIf, rowLeft}
+use Rattle.parser.specs.internal.Steps.{Small, Spans, small, over, spans, from-refused, to-refused, opened, Within, inside}
+use Rattle.parser.specs.internal.Steps.{elsewhere, nextKind, askedAt, takenBy, takenKind, takenIf, rowLeft}
 use Rattle.parser.specs.declared.Step.{Step}
 use Rattle.parser.specs.declared.Step.the-variants.{Read, Refused}
 
