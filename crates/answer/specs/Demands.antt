@@ -1,5 +1,5 @@
--- Demands 1, 2 and 3 of document 00 as one record, in document 01's words, of any reader's result. They speak of tokens, derivations
--- and partial derivations as relations, and of nothing that reads. The computed answer has them (`answer-meets` in
+-- Demands 1, 2 and 3 of document 00 as one record, in document 01's words, of any reader's result. Tokens, derivations and how far
+-- derivations come are relations here, and nothing is computed by reading. The computed answer has the demands (`answer-meets` in
 -- proofs/Theorem.antt), and whatever has them is that answer (`answer-only`): they leave nothing open.
 use Prim.Native.Nat.{ℕ, _<_, _≤_}
 use mathlib.Core.Path.{_≡_}

@@ -65,7 +65,8 @@ fn read_tokens(source: &[u8], names: &[u8], tokens: &[u32], rows: &mut [u32]) ->
     }
 }
 
-// Reads a source with a list of extra type names into two lent tables. Any bytes, any list and any tables get an answer.
+// Reads a source with a list of extra type names into two lent tables. Any bytes, any list and any tables get an answer. What is promised
+// is said twice: by the demands, which are relations, and by one computed answer. They are the same (`answer-meets`, `answer-only`).
 pub fn read(source: &[u8], names: &[u8], tokens: &mut [u32], rows: &mut [u32]) -> Answer
     ensures answer { λ r. ⌜ _≡_ {A = Result} (record { answer = r; tokens = now (tokens .exit); rows = now (rows .exit) })
         (answer17 (now (source .entry)) (now (names .entry)) (now (tokens .entry)) (now (rows .entry))) ⌝ }

@@ -59,13 +59,14 @@ module _ (l : Language) (source names : List ℕ) (ts : List Token) where
         → (o ≡ spent → ⊥) → readTokens l n source names ts ≡ o
     -- More levels never change an ok or a stuck.
     pub grows : (n m : ℕ) → n ≤ m → Grows byLevels (readTokens l n source names ts) (readTokens l m source names ts)
-    -- Stuck is where there is no program, and, where there is a level at all, nowhere else.
+    -- Stuck is where `NoProgram` says, and nowhere else. A limit of no level at all is left out: there the reading is too deep before it
+    -- has looked at a token.
     pub no-program : (n place : ℕ) → readTokens l n source names ts ≡ stuck place → NoProgramOf l source names ts n place
     pub no-program-read : (n place : ℕ) → 1 ≤ n → NoProgramOf l source names ts n place → readTokens l n source names ts ≡ stuck place
-    -- Too deep, where there is a level at all, is where partial derivations are, and nowhere else.
+    -- Too deep is where `TooDeep` says, and nowhere else, with the same exception.
     pub too-deep : (n place : ℕ) → 1 ≤ n → readTokens l n source names ts ≡ deep place → TooDeepOf l source names ts n place
     pub too-deep-read : (n place : ℕ) → TooDeepOf l source names ts n place → readTokens l n source names ts ≡ deep place
-    -- Then there is no derivation within the levels.
+    -- Where it says so, there is no derivation within the levels.
     pub too-deep-none : (n place : ℕ) (rs : List Row) → TooDeepOf l source names ts n place → DerivationOf l source names ts n rs → ⊥
     -- "6: token index, or the token count at the end"; "7: token index".
     pub no-program-at : (n place : ℕ) → NoProgramOf l source names ts n place → place ≤ length ts
