@@ -105,7 +105,8 @@ module _ (l : Language) (source names : List ℕ) where
       -- above), and "The rows filled in the tree table are exactly its rows, in order, and the tree's row count is their number."
       pub accepts : (ts : List Token) (rs : List Row) → Readable ts → Room ts → DerivationOf l source names ts limit rs
           → r ≡ record { answer = Accepted (length ts) (length rs); tokens = filled source ts tokens; rows = placed rs rows }
-      -- "Every derivation of those tokens, at whatever depth, is then that same one."
+      -- "Every derivation of those tokens, at whatever depth, is then that same one": whatever acceptance there is, its rows are the only
+      -- ones. This is a fact of the grammar; with `accepted` it fixes the rows of the table.
       pub only : (tokenCount rowCount : ℕ) (a : Acceptance tokenCount rowCount (r .tokens) (r .rows)) (n : ℕ) (rs : List Row)
           → DerivationOf l source names (a .token-table .token-list) n rs → rs ≡ a .row-list
       -- "“No program” is said only if there is no derivation at any depth"

@@ -95,8 +95,8 @@ module _ (l : Language) (source names : List ℕ) (limit : ℕ) (tokens rows : L
     read-result ts r room = rw (verdict-read ts r room (readTokens l limit source names ts) refl)
 
     -- the theorems of readable tokens
-    known : {ts : List Token} → Readable l source names ts → Theorems l source names ts (fit .hints .lastKind) (fit .hints .topKind)
-    known {ts = ts} r = theorems l fit source names ts (readable-scan l (fit .marks) source names r)
+    theorems-of : {ts : List Token} → Readable l source names ts → Theorems l source names ts (fit .hints .lastKind) (fit .hints .topKind)
+    theorems-of {ts = ts} r = theorems l fit source names ts (readable-scan l (fit .marks) source names r)
 
     refusal-says : (number place : ℕ) (ta ra : List ℕ) → Refusal l source names limit tokens rows number place ta ra → Says number place ta
     refusal-says number place ta ra (too-long long) = says-early 1 0 ta (omega arith)
@@ -133,10 +133,10 @@ module _ (l : Language) (source names : List ℕ) (limit : ℕ) (tokens rows : L
         → (o : Outcome) → readTokens l limit source names ts ≡ o → Found (judged (treeRoom rows) ts o)
     unfolding judged
     found-judged ts r room (ok j rs said) h =
-        found-rows ts rs r room (known r .sound limit j said rs h .1) (leb (length rs) (treeRoom rows)) refl
-    found-judged ts r room (stuck i) h = found-late (no-program r room (known r .no-program limit i h))
-    found-judged ts r room (deep i) h = found-late (too-deep r room (known r .too-deep limit i some h))
-    found-judged ts r room spent h = absurd (known r .unspent limit h)
+        found-rows ts rs r room (theorems-of r .sound limit j said rs h .1) (leb (length rs) (treeRoom rows)) refl
+    found-judged ts r room (stuck i) h = found-late (no-program r room (theorems-of r .no-program limit i h))
+    found-judged ts r room (deep i) h = found-late (too-deep r room (theorems-of r .too-deep limit i some h))
+    found-judged ts r room spent h = absurd (theorems-of r .unspent limit h)
 
     -- No. 3 to 5
     found-tokens : (ts : List Token) → Readable l source names ts → (t : Bool) → leb (length ts) (tokenRoom tokens) ≡ t
@@ -187,7 +187,7 @@ module _ (l : Language) (source names : List ℕ) (limit : ℕ) (tokens rows : L
         → verdict l limit source names (tokenRoom tokens) (treeRoom rows)
         ≡ pick (leb (length rs) (treeRoom rows)) (accept ts rs) (late 8 (length rs) ts)
     unfolding judged
-    verdict-derived ts rs r room d = cases (known r .complete limit rs d)
+    verdict-derived ts rs r room d = cases (theorems-of r .complete limit rs d)
       where
         cases : ReadAs (readTokens l limit source names ts) (length ts) rs → verdict l limit source names (tokenRoom tokens) (treeRoom rows)
             ≡ pick (leb (length rs) (treeRoom rows)) (accept ts rs) (late 8 (length rs) ts)
@@ -205,9 +205,9 @@ module _ (l : Language) (source names : List ℕ) (limit : ℕ) (tokens rows : L
     refusal-result number place ta ra (few-token-rows {ts = ts} r few) =
         rw (verdict-clean ts r, lt-leb (length ts) (tokenRoom tokens) few)
     refusal-result number place ta ra (no-program {ts = ts} r room h) =
-        rw (verdict-read ts r room (stuck place) (known r .no-program-read limit place some h))
+        rw (verdict-read ts r room (stuck place) (theorems-of r .no-program-read limit place some h))
     refusal-result number place ta ra (too-deep {ts = ts} r room h) =
-        rw (verdict-read ts r room (deep place) (known r .too-deep-read limit place h))
+        rw (verdict-read ts r room (deep place) (theorems-of r .too-deep-read limit place h))
     refusal-result number place ta ra (few-tree-rows {ts = ts} {rs = rs} r room d few) =
         rw (verdict-derived ts rs r room d, lt-leb (length rs) (treeRoom rows) few)
 
@@ -237,7 +237,7 @@ module _ (l : Language) (source names : List ℕ) (limit : ℕ) (tokens rows : L
     room-by ts rs r room space d = record {
       for-tokens = room;
       for-rows = λ (others : List Row) (e : DerivationOf l source names ts limit others).
-          let same = known r .unique limit limit others rs e d in
+          let same = theorems-of r .unique limit limit others rs e d in
           rw same space;
     }
 
@@ -259,7 +259,7 @@ module _ (l : Language) (source names : List ℕ) (limit : ℕ) (tokens rows : L
     -- whatever derivation there is, where a source was accepted, is the one that was accepted
     only-by : (t n : ℕ) (ta ra : List ℕ) (a : Acceptance l source names limit tokens rows t n ta ra) (m : ℕ) (rs : List Row)
         → DerivationOf l source names (a .token-table .token-list) m rs → rs ≡ a .row-list
-    only-by t n ta ra a m rs d = known (a .token-table .readable) .unique m limit rs (a .row-list) d (a .derived)
+    only-by t n ta ra a m rs d = theorems-of (a .token-table .readable) .unique m limit rs (a .row-list) d (a .derived)
 
     pub answered-demands : Demands l source names limit tokens rows (answered l limit source names tokens rows)
     unfolding answered
@@ -278,7 +278,7 @@ module _ (l : Language) (source names : List ℕ) (limit : ℕ) (tokens rows : L
             accept-result ts rs k (room .for-tokens) (room .for-rows rs d) d;
         only = λ t n. only-by t n _ _;
         no-derivation = λ place h ts k n rs. said 6 place h .six refl ts k .none n rs;
-        none-within = λ place h ts k rs. known k .too-deep-none limit place rs (said 7 place h .seven refl ts k);
+        none-within = λ place h ts k rs. theorems-of k .too-deep-none limit place rs (said 7 place h .seven refl ts k);
       };
     }
       where

@@ -1,4 +1,5 @@
--- The readers that document 01 will not accept, and that each violates the demand that is named for it. Assumes nothing.
+-- The readers that document 01 will not accept, and one that leaves a token out: each violates the demand that is named for it.
+-- Assumes nothing.
 use Prim.Native.Nat.{ℕ, suc, _*_, _-_}
 use mathlib.Core.Path.{_≡_, refl, sym, _∙_, ap}
 use mathlib.Core.List.{List, [], _∷_, _++_}

@@ -15,7 +15,7 @@ use Rattle.grammar.specs.Rows.{levels}
 use Rattle.grammar.specs.executable.Reading.{Outcome, spent, selected, choice, joined, readWithin, breadth, whole, reading}
 use Rattle.grammar.proofs.Laws.CheckLaws.{and-else, implies-false, every-has}
 use Rattle.grammar.proofs.Laws.Choices.{chosen}
-use Rattle.grammar.proofs.Laws.Outcomes.{Ends, Anywhere, upTo, out, ends-spent, ends-over, ends-both, ends-pick, ends-onward}
+use Rattle.grammar.proofs.Laws.Outcomes.{Ends, Anywhere, upTo, out, ends-spent, ends-each, ends-both, ends-pick, ends-onward}
 use Rattle.grammar.proofs.Laws.Outcomes.{ends-enter}
 use Rattle.grammar.proofs.Laws.Checks.{Hints, implies, every, noEnd, vanishes, needs, bounded, falls}
 
@@ -116,10 +116,12 @@ module _ (g : List Production) (v : View) (h : Hints) (w : ℕ) (good : every (f
   advances-within (suc f) e n [] i = upTo (advances-none h v i)
   advances-within (suc f) e n (token cs ∷ ss) i =
       ends-pick (among cs (v .class e i)) (readWithin g v f e n ss (suc i)) i tt (λ (t : among cs (v .class e i) ≡ true).
-      ends-over (advances-within f e n ss (suc i)) (λ (j : ℕ) (rows : List Row) (said : ℕ). advances-token h v cs ss e i j t))
+      ends-each (advances-within f e n ss (suc i)) (λ (j : ℕ) (rows : List Row) (said : ℕ). advances-token h v cs ss e i j t)
+      (λ (q : ℕ) k. tt) (λ (q : ℕ) k. tt))
   advances-within (suc f) e n (condition b q ∷ ss) i =
       ends-pick (met v e i b q) (readWithin g v f e n ss i) i tt (λ (t : met v e i b q ≡ true).
-      ends-over (advances-within f e n ss i) (λ (j : ℕ) (rows : List Row) (said : ℕ). advances-condition h v b q ss i j))
+      ends-each (advances-within f e n ss i) (λ (j : ℕ) (rows : List Row) (said : ℕ). advances-condition h v b q ss i j)
+      (λ (p : ℕ) k. tt) (λ (p : ℕ) k. tt))
   advances-within (suc f) e n (derived x ∷ ss) i =
       ends-enter (choice g v (v .inside x i e) x i) n i _ tt (λ p c l. tt) (λ (p : Production) (below : ℕ) (c : choice g v (v .inside x i e) x i ≡ selected p)
       (fit : n ≡ levels (p .makes) + below).

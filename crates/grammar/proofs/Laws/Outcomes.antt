@@ -30,13 +30,6 @@ module _ {P : ℕ → List Row → ℕ → Type 0} {K D : ℕ → Type 0} {S : T
   pub ends-spent : Ends P K D S spent → S
   ends-spent (out s) = s
 
-  pub ends-over : {Q : ℕ → List Row → ℕ → Type 0} {o : Outcome} → Ends P K D S o
-      → ((j : ℕ) (rows : List Row) (said : ℕ) → P j rows said → Q j rows said) → Ends Q K D S o
-  ends-over (upTo {j = j} {said = said} {rows = rows} a) f = upTo (f j rows said a)
-  ends-over (atStuck k) f = atStuck k
-  ends-over (atDeep d) f = atDeep d
-  ends-over (out s) f = out s
-
   pub ends-each : {Q : ℕ → List Row → ℕ → Type 0} {L E : ℕ → Type 0} {o : Outcome} → Ends P K D S o
       → ((j : ℕ) (rows : List Row) (said : ℕ) → P j rows said → Q j rows said) → ((i : ℕ) → K i → L i) → ((i : ℕ) → D i → E i)
       → Ends Q L E S o

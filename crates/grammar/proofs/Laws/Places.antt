@@ -155,16 +155,16 @@ module _ (g : List Production) (h : Hints) (bound x : ℕ) (tests : Passes g h b
   reached-within r = reaches-within g v h (suc (breadth g)) count (tests .falling) tokens r refl (omega arith)
 
   -- "6: token index, or the token count at the end"
-  pub no-program-within : (n place : ℕ) → NoProgram g v count e x n place → place ≤ count
-  no-program-within n place refusal = reached-within (refusal .reached)
+  pub no-program-at : (n place : ℕ) → NoProgram g v count e x n place → place ≤ count
+  no-program-at n place refusal = reached-within (refusal .reached)
 
   -- "7: token index"
-  pub too-deep-within : (n place : ℕ) → TooDeep g v count e x n place → place < count
-  too-deep-within n place refusal = reached-within (refusal .deeper)
+  pub too-deep-at : (n place : ℕ) → TooDeep g v count e x n place → place < count
+  too-deep-at n place refusal = reached-within (refusal .deeper)
 
   -- Where it is too deep there is no derivation within the levels, for that would reach the end of the tokens.
   pub too-deep-none : (n place : ℕ) (rows : List Row) → TooDeep g v count e x n place → Derivation g v count e n x rows → ⊥
   too-deep-none n place rows refusal (derivation d) =
       let end = refusal .furthest count (derives-reaches d) in
-      let at = too-deep-within n place refusal in
+      let at = too-deep-at n place refusal in
       absurd (omega arith)

@@ -27,8 +27,8 @@ use Rattle.grammar.proofs.Laws.Readings.{Counted, reading-sound, readin
 use Rattle.grammar.proofs.Laws.Readings.{reading-grows, derivation-few}
 use Rattle.grammar.proofs.Laws.Views.{classes, Kinds, items-length, items-kinds, view-counted}
 use Rattle.grammar.proofs.Laws.Forests.{forest as trees}
-use Rattle.grammar.proofs.Laws.Places.{stuck-no-program, deep-too-deep, no-program-stuck, too-deep-deep, no-program-within, too-deep-within}
-use Rattle.grammar.proofs.Laws.Places.{too-deep-none as none-within}
+use Rattle.grammar.proofs.Laws.Places.{stuck-no-program, deep-too-deep, no-program-stuck, too-deep-deep}
+use Rattle.grammar.proofs.Laws.Places.{no-program-at as no-program-place, too-deep-at as too-deep-place, too-deep-none as none-within}
 
 -- what is asked of a language
 pub record Fit (l : Language) : Type 0 where
@@ -126,8 +126,8 @@ module _ (l : Language) (fit : Fit l) (source names : List ℕ) (ts : List Token
     too-deep = deep-too-deep g h classes x (fit .tests) v (length ts) steady counted _;
     too-deep-read = too-deep-deep g h classes x (fit .tests) v (length ts) steady counted _;
     too-deep-none = none-within g h classes x (fit .tests) v (length ts) steady counted _;
-    no-program-at = no-program-within g h classes x (fit .tests) v (length ts) steady counted _;
-    too-deep-at = too-deep-within g h classes x (fit .tests) v (length ts) steady counted _;
+    no-program-at = no-program-place g h classes x (fit .tests) v (length ts) steady counted _;
+    too-deep-at = too-deep-place g h classes x (fit .tests) v (length ts) steady counted _;
     unspent = reading-unspent g h classes x (fit .tests) v (length ts) steady counted _;
     takes = λ n rs d. takes-once d;
     few = derivation-few g h classes x (fit .tests) v (length ts) steady counted _;
