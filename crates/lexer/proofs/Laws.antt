@@ -6,9 +6,12 @@ pub mod Fronts
 pub mod Runs
 pub mod Words
 pub mod Numbers
+pub mod Sizes
+pub mod Editions
 pub mod Marks
 pub mod Lexemes
-pub mod Sizes
+pub mod Entries
+pub mod Packed
 pub mod Scans
 pub mod Gaps
 pub mod Places
@@ -16,9 +19,8 @@ pub mod Longest
 pub mod Kept
 pub mod Cuts
 pub mod Tiles
-pub mod Counts
 pub mod Rows
-pub mod Fills
+pub mod Passes
 pub mod Answers
 pub mod Examples
 pub mod Kinds

@@ -1,9 +1,13 @@
 // From bytes to tokens: the tokeniser of NURL, proved to give exactly the tokens of the lexical rules in specs/.
-mod bytes;
+pub mod bytes;
+mod editions;
+mod entries;
 pub mod kinds;
 mod lexemes;
 mod marks;
 mod numbers;
+mod packed;
+mod passes;
 pub mod refusals;
 mod runs;
 mod table;
@@ -11,10 +15,15 @@ mod text;
 mod tokens;
 mod words;
 
+pub use bytes::class_of;
 pub use lexemes::lexeme_at;
+pub use numbers::exponent_end;
+pub use numbers::fraction_end;
 pub use runs::run_end;
+pub use table::TokenRow;
 pub use table::WIDTH;
 pub use table::kind_at;
+pub use table::put_token;
 pub use table::room;
 pub use table::size_at;
 pub use table::start_at;
@@ -23,6 +32,16 @@ pub use tokens::SOURCE_LIMIT;
 pub use tokens::count_tokens;
 pub use tokens::tokenize;
 pub use words::two_colons;
+pub use words::word_at;
+pub use words::word_end;
+
+// An edition of the grammar.
+pub enum Edition {
+    // 1.1, document 008.
+    V11,
+    // 1.7, document 009.
+    V17,
+}
 
 // A class of bytes that a lexeme can go on over.
 pub enum Class {

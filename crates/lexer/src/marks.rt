@@ -1,18 +1,33 @@
 // Marks: the longest that fits.
+use crate::Edition;
 use crate::Lexeme;
 use crate::bytes;
+use crate::editions;
 use crate::kinds;
 ghost use mathlib.Core.Path.{_≡_};
 ghost use mathlib.Core.List.{[], _∷_};
 ghost use Prim.Native.Nat.{_<_};
-ghost use lib.ListN.{length, drop, getD};
+ghost use lib.ListN.{length, take, drop, getD};
 ghost use Rattle.lexer.specs.Spellings.{kindOf};
 ghost use Rattle.lexer.specs.Editions.{edition17};
-ghost use Rattle.lexer.specs.Lexemes.{mark};
+ghost use Rattle.lexer.specs.internal.Editions.{editionOf, hasShifts};
+ghost use Rattle.lexer.specs.Tests.{pick};
+ghost use Rattle.lexer.specs.declared.Lexeme.the-variants.{BadByte};
+ghost use Rattle.lexer.specs.Lexemes.{markOf, mark};
+
+// A kind, or 0 where the edition has no shifts.
+fn shift_kind(edition: Edition, kind: u32) -> u32
+    ensures { λ r. ⌜ r ≡ pick (hasShifts edition) kind 0 ⌝ }
+{
+    if editions::has_shifts(edition) {
+        return kind;
+    }
+    0
+}
 
 // The kind of the mark that two bytes spell, or 0.
-fn pair_kind(first: u8, second: u8) -> u32
-    ensures { λ r. ⌜ r ≡ kindOf (edition17 .marks) (first ∷ second ∷ []) ⌝ }
+pub(crate) fn pair_kind(edition: Edition, first: u8, second: u8) -> u32
+    ensures { λ r. ⌜ r ≡ kindOf (editionOf edition .marks) (first ∷ second ∷ []) ⌝ }
 {
     if second == b'=' {
         return match first {
@@ -25,8 +40,8 @@ fn pair_kind(first: u8, second: u8) -> u32
     }
     if first == second {
         return match first {
-            b'<' => kinds::LESS_LESS,
-            b'>' => kinds::GREATER_GREATER,
+            b'<' => shift_kind(edition, kinds::LESS_LESS),
+            b'>' => shift_kind(edition, kinds::GREATER_GREATER),
             b'?' => kinds::QUESTION_QUESTION,
             _ => 0,
         };
@@ -34,9 +49,9 @@ fn pair_kind(first: u8, second: u8) -> u32
     0
 }
 
-// The mark at the front of one or two bytes.
+// The mark that one byte is, the same in every edition.
 fn mark_of_one(first: u8) -> Lexeme
-    ensures { λ r. ⌜ r ≡ mark edition17 (first ∷ []) ⌝ }
+    ensures { λ r. ⌜ r ≡ markOf (kindOf (edition17 .marks) (first ∷ [])) 1 BadByte ⌝ }
 {
     let kind = bytes::mark_kind(first);
     if kind == 0 {
@@ -45,20 +60,21 @@ fn mark_of_one(first: u8) -> Lexeme
     Lexeme::Token(kind, 1)
 }
 
-fn mark_of_two(first: u8, second: u8) -> Lexeme
-    ensures { λ r. ⌜ r ≡ mark edition17 (first ∷ second ∷ []) ⌝ }
+// The mark at the front of two bytes.
+fn mark_of_two(edition: Edition, first: u8, second: u8) -> Lexeme
+    ensures { λ r. ⌜ r ≡ mark (editionOf edition) (first ∷ second ∷ []) ⌝ }
 {
-    let kind = pair_kind(first, second);
+    let kind = pair_kind(edition, first, second);
     if kind == 0 {
         return mark_of_one(first);
     }
     Lexeme::Token(kind, 2)
 }
 
-// The mark at `at`, where the first byte of `→` stands. No other mark begins with it.
+// The mark at `at`, where the first byte of `→` stands. No other mark begins with it, in any edition.
 fn arrow_at(source: &[u8], at: usize) -> Lexeme
     requires { ⌜ (at < length (now source)) × (getD (now source) at 0 ≡ 0xE2) ⌝ }
-    ensures { λ r. ⌜ r ≡ mark edition17 (drop at (now (source .entry))) ⌝ }
+    ensures { λ r. ⌜ r ≡ markOf (kindOf (edition17 .marks) (take 3 (drop at (now (source .entry))))) 3 BadByte ⌝ }
 {
     let next = at + 1;
     if next < source.len() {
@@ -72,8 +88,8 @@ fn arrow_at(source: &[u8], at: usize) -> Lexeme
 }
 
 // The mark at `at`. Only `→` has more than two bytes, and a byte 0 after the end changes no mark.
-pub fn mark_at(source: &[u8], at: usize) -> Lexeme
-    ensures { λ r. ⌜ r ≡ mark edition17 (drop at (now (source .entry))) ⌝ }
+pub fn mark_at(edition: Edition, source: &[u8], at: usize) -> Lexeme
+    ensures { λ r. ⌜ r ≡ mark (editionOf edition) (drop at (now (source .entry))) ⌝ }
 {
     if source.len() <= at {
         return Lexeme::BadByte;
@@ -83,5 +99,5 @@ pub fn mark_at(source: &[u8], at: usize) -> Lexeme
         return arrow_at(source, at);
     }
     let second = bytes::byte_at(source, at + 1);
-    mark_of_two(first, second)
+    mark_of_two(edition, first, second)
 }

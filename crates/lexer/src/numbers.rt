@@ -11,7 +11,7 @@ ghost use Rattle.lexer.specs.Numbers.{fraction, sign, exponent};
 ghost use Rattle.lexer.specs.Lexemes.{unsignedNumber};
 
 // Where the point and digits at `at` end, or `at` where not all of that is there.
-fn fraction_end(source: &[u8], at: usize) -> usize
+pub fn fraction_end(source: &[u8], at: usize) -> usize
     ensures { λ r. ⌜ r ≡ at + fraction (drop at (now (source .entry))) ⌝ }
 {
     if bytes::begins_either(source, at, b'.', b'.') {
@@ -35,7 +35,7 @@ fn sign_end(source: &[u8], at: usize) -> usize
 }
 
 // Where the exponent at `at` ends, or `at` where not all of one is there.
-fn exponent_end(source: &[u8], at: usize) -> usize
+pub fn exponent_end(source: &[u8], at: usize) -> usize
     ensures { λ r. ⌜ r ≡ at + exponent (drop at (now (source .entry))) ⌝ }
 {
     if bytes::begins_either(source, at, b'e', b'E') {

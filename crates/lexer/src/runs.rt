@@ -1,12 +1,12 @@
 // How far a class of bytes runs: one loop for each class, whose test is plain comparisons on the byte.
 use crate::Class;
 ghost use mathlib.Core.Path.{_≡_};
-ghost use Prim.Native.Nat.{_+_, _-_, _≤_};
-ghost use mathlib.Core.Bool.{true};
+ghost use Prim.Native.Nat.{_+_, _-_, _≤_, _<_};
+ghost use mathlib.Core.Bool.{true, false};
 ghost use lib.ListN.{length, drop};
 ghost use Rattle.lexer.specs.Bytes.{isSpace, isDigit, isWordByte, run};
 ghost use Rattle.lexer.specs.internal.Class.{member};
-ghost use Rattle.lexer.specs.internal.Leaves.{isNot, Goes};
+ghost use Rattle.lexer.specs.internal.Leaves.{isNot, block, Goes};
 
 // Whether a byte is a space.
 fn is_space(b: u8) -> bool
@@ -119,15 +119,18 @@ fn stop_after(source: &[u8], at: usize, stop: u8) -> usize
     i
 }
 
-// Whether none of the sixteen bytes from `at` on is `stop`, so that a run that is at `at` goes on after them. Every byte is looked at,
+// How many bytes are looked at in one turn.
+const BLOCK: usize = 32;
+
+// Whether none of the bytes of the block at `at` is `stop`, so that a run that is at `at` goes on after them. Every byte is looked at,
 // so that the compiler can compare them at once.
 fn block_passes(source: &[u8], at: usize, stop: u8) -> bool
-    requires { ⌜ at + 16 ≤ length (now source) ⌝ }
-    ensures { λ r. ⌜ (r ≡ true → Goes (isNot stop) (now (source .entry)) at (at + 16)) ⌝ }
+    requires { ⌜ at + block ≤ length (now source) ⌝ }
+    ensures { λ r. ⌜ (r ≡ true → Goes (isNot stop) (now (source .entry)) at (at + block)) × (r ≡ false → at + run (isNot stop) (drop at (now (source .entry))) < length (now (source .entry))) ⌝ }
 {
     let mut found = false;
     let mut k = 0;
-    while k < 16 {
+    while k < BLOCK {
         if source[at + k] == stop {
             found = true;
         }
@@ -136,17 +139,29 @@ fn block_passes(source: &[u8], at: usize, stop: u8) -> bool
     !found
 }
 
-// Where the bytes from `at` on that are not `stop` end, sixteen bytes a turn while none of them is `stop`.
+// Where the bytes from `at` on that are not `stop` end. It is known that a `stop` follows.
+fn stop_ahead(source: &[u8], at: usize, stop: u8) -> usize
+    requires { ⌜ at + run (isNot stop) (drop at (now source)) < length (now source) ⌝ }
+    ensures { λ r. ⌜ r ≡ at + run (isNot stop) (drop at (now (source .entry))) ⌝ }
+{
+    let mut i = at;
+    while source[i] != stop {
+        i += 1;
+    }
+    i
+}
+
+// Where the bytes from `at` on that are not `stop` end, a block a turn while none of its bytes is `stop`.
 fn stop_end(source: &[u8], at: usize, stop: u8) -> usize
     ensures { λ r. ⌜ r ≡ at + run (isNot stop) (drop at (now (source .entry))) ⌝ }
 {
-    let last = bytes_from(source, 15);
+    let last = bytes_from(source, BLOCK - 1);
     let mut i = at;
     while i < last {
         if !block_passes(source, i, stop) {
-            return stop_after(source, i, stop);
+            return stop_ahead(source, i, stop);
         }
-        i += 16;
+        i += BLOCK;
     }
     stop_after(source, i, stop)
 }

@@ -57,7 +57,7 @@ pub fn size_at(table: &[u32], row: usize) -> u32
 }
 
 // Writes a token's row.
-pub(crate) fn put_token(table: &mut [u32], row: usize, token: TokenRow)
+pub fn put_token(table: &mut [u32], row: usize, token: TokenRow)
     requires { ⌜ (row + 1) * tokenWidth ≤ length (now table) ⌝ }
     ensures { λ r. ⌜ now (table .exit) ≡ sets (now (table .entry)) (row * tokenWidth) (rowNumbers token) ⌝ }
 {

@@ -12,7 +12,7 @@ ghost use Rattle.lexer.specs.Words.{wordLength, identLength, twoColons, 
 ghost use Rattle.lexer.specs.Lexemes.{word};
 
 // Where the word at `at` ends, or `at` where there is none.
-fn word_end(source: &[u8], at: usize) -> usize
+pub fn word_end(source: &[u8], at: usize) -> usize
     ensures { λ r. ⌜ r ≡ at + wordLength (drop at (now (source .entry))) ⌝ }
 {
     if at < source.len() {
@@ -53,7 +53,7 @@ pub fn two_colons(source: &[u8], at: usize) -> bool
 }
 
 // Where an IDENT that ends at `end` ends with all that joins it.
-fn joins_end(source: &[u8], end: usize) -> usize
+pub(crate) fn joins_end(source: &[u8], end: usize) -> usize
     ensures { λ r. ⌜ r ≡ end + joins (drop end (now (source .entry))) ⌝ }
 {
     let mut i = end;

@@ -1,5 +1,6 @@
 // From bytes to rows: document 01's refusals in their order, or acceptance, and what both tables hold afterwards.
 use answer::Answer;
+use lexer::Edition;
 use lexer::Scanned;
 use lexer::refusals;
 use parser::Step;
@@ -83,7 +84,7 @@ pub fn read(source: &[u8], names: &[u8], tokens: &mut [u32], rows: &mut [u32]) -
     match checked {
         Checked::Refused(number, place) => Answer::Refused(number, place),
         Checked::Good => {
-            let scanned = lexer::tokenize(source, tokens);
+            let scanned = lexer::tokenize(Edition::V17, source, tokens);
             match scanned {
                 Scanned::Refused(number, place) => Answer::Refused(number, place),
                 Scanned::Tokens(count) => {

@@ -27,6 +27,10 @@ byteClass b =
 abbrev pub isNot : ℕ → ℕ → Bool
 isNot stop b = not (eqb b stop)
 
+-- how many bytes are looked at in one turn
+abbrev pub block : ℕ
+block = 32
+
 -- a run from one place of some bytes goes on at another
 abbrev pub Goes : (ℕ → Bool) → List ℕ → ℕ → ℕ → Type 0
 Goes p s at i = i + run p (drop i s) ≡ at + run p (drop at s)

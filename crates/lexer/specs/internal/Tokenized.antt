@@ -8,6 +8,8 @@ use Rattle.lexer.specs.Tests.{pick}
 use Rattle.lexer.specs.Editions.{Edition}
 use Rattle.lexer.specs.Tokens.{Token, Ending, clean, fault}
 use Rattle.lexer.specs.executable.Scans.{Scan, scan}
+use Rattle.lexer.specs.declared.Lexeme.{Lexeme}
+use Rattle.lexer.specs.declared.Lexeme.the-variants.{End, Skipped, BadByte, OpenString}
 use Rattle.lexer.specs.declared.Scanned.{Scanned}
 use Rattle.lexer.specs.declared.Scanned.the-variants.{Tokens, Refused}
 use Rattle.lexer.specs.Table.{sourceLimit, tokenRoom, filled}
@@ -20,6 +22,14 @@ endedWith count (fault number place) = Refused number place
 -- the number of tokens, or the fault
 unfoldable pub scanned : Scan → Scanned
 scanned x = endedWith (length (x .found)) (x .ending)
+
+-- what is answered where a lexeme at a place ends the tokens, so many of which have been met
+unfoldable pub endedBy : Lexeme → ℕ → ℕ → Scanned
+endedBy End at count = Tokens count
+endedBy (Skipped n) at count = Tokens count
+endedBy (Lexeme.Token k n) at count = Tokens count
+endedBy BadByte at count = Refused (refusalNumber "bad byte") at
+endedBy OpenString at count = Refused (refusalNumber "open string") at
 
 -- refusal 1, else what the source's tokens are
 unfoldable pub counted : Edition → List ℕ → Scanned

@@ -1,78 +1,51 @@
--- `lexer::tokens::tokenize` meets its contract: what the count and the table's room decide. Assumes nothing.
-use mathlib.Core.Path.{_∙_, sym, ap}
-use Rattle.lexer.specs.Editions.{edition17}
-use Rattle.lexer.specs.internal.Tokenized.{counted, scannedValues}
-use Rattle.lexer.proofs.Laws.Answers.{clean-count, answer-refused, answer-full, answer-tokens}
+use borrow.Author.Needs.{needs}
 use Rattle.lexer.proofs.tokens.tokenize.Statement.{statement}
 use Rattle.lexer.proofs.tokens.tokenize.Tie as tie
-use native.Mathlib.Omega.{arith}
-use borrow.Author.Needs.{needs}
+use Rattle.lexer.proofs.tokens.tokenize.Reads as reads
+use Rattle.lexer.proofs.tokens.tokenize.Lts as lts
+use Rattle.lexer.proofs.passes.scan.Reads as scan-reads
+use Rattle.lexer.proofs.table.room.Reads as room-reads
+use Rattle.lexer.proofs.tokens.count_tokens.Reads as count-tokens-reads
 
+-- src/tokens.rt:32:9
 count-tokens-requires : tie.Need-count-tokens-requires
 count-tokens-requires c κs = search needs
 
+-- src/tokens.rt:34:26
 enum-known-found : tie.Need-enum-known-found
 enum-known-found c = search needs
 
+-- src/tokens.rt:35:25
 enum-known-found-2 : tie.Need-enum-known-found-2
 enum-known-found-2 c = search needs
 
+-- src/tokens.rt:36:16
 room-requires : tie.Need-room-requires
 room-requires c κs = search needs
 
+-- src/tokens.rt:37:17
 same-length : tie.Need-same-length
 same-length c = search needs
 
+-- src/tokens.rt:37:17
 returns : tie.Need-returns
-returns c =
-    let count-tokens = c .before .before .before .before .before .before .count-tokens in
-    let found2 = c .before .before .before .before .found2 in
-    let room = c .before .room in
-    let args = c .before .before .before .before .before .before .before .before .before .args in
-    let counted = sym (count-tokens .ensures .0) ∙ found2 .given .1 in
-    let e = room .ensures in
-    let full = c .if1 .taken in
-    let a = answer-full edition17 (args .source .now) (args .table .now) _ counted (omega arith) in
-    (sym (a .says), (sym (a .leaves), ap scannedValues (sym (a .says))))
+returns c = ?
 
-fill-requires : tie.Need-fill-requires
-fill-requires c κs =
-    let args = c .before .before .before .before .before .before .before .before .before .before .args in
-    let count-tokens = c .before .before .before .before .before .before .before .count-tokens in
-    let found2 = c .before .before .before .before .before .found2 in
-    let room = c .before .before .room in
-    let if1 = c .before .if1 in
-    let k = clean-count edition17 (args .source .now) _ (sym (count-tokens .ensures .0) ∙ found2 .given .1) in
-    let e = room .ensures in
-    let fits = if1 .left in
-    let n = k .count in
-    (k .short, (k .ends, omega arith))
+-- src/tokens.rt:39:13
+scan-requires : tie.Need-scan-requires
+scan-requires c κs = ?
 
+-- src/tokens.rt:27:1
 returns-2 : tie.Need-returns-2
-returns-2 c =
-    let count-tokens = c .before .before .before .count-tokens in
-    let found = c .before .found in
-    let args = c .before .before .before .before .before .before .args in
-    let counted = sym (count-tokens .ensures .0) ∙ found .given .1 in
-    let a = answer-refused edition17 (args .source .now) (args .table .now) _ _ counted in
-    (sym (a .says), (sym (a .leaves), ap scannedValues (sym (a .says))))
+returns-2 c = ?
 
+-- src/tokens.rt:27:1
 same-length-2 : tie.Need-same-length-2
 same-length-2 c = search needs
 
+-- src/tokens.rt:27:1
 returns-3 : tie.Need-returns-3
-returns-3 c =
-    let count-tokens = c .before .before .before .before .before .before .before .before .before .before .count-tokens in
-    let found2 = c .before .before .before .before .before .before .before .before .found2 in
-    let room = c .before .before .before .before .before .room in
-    let if1 = c .before .before .before .before .if1 in
-    let args = c .before .before .before .before .before .before .before .before .before .before .before .before .before .args in
-    let fill = c .before .before .fill in
-    let counted = sym (count-tokens .ensures .0) ∙ found2 .given .1 in
-    let e = room .ensures in
-    let fits = if1 .left in
-    let a = answer-tokens edition17 (args .source .now) (args .table .now) _ counted (omega arith) in
-    (sym (a .says), (fill .ensures ∙ sym (a .leaves), ap scannedValues (sym (a .says))))
+returns-3 c = ?
 
 pub tokenize-spec : {M : Type 1} → statement M
 tokenize-spec =
@@ -84,7 +57,7 @@ tokenize-spec =
     room-requires
     same-length
     returns
-    fill-requires
+    scan-requires
     returns-2
     same-length-2
     returns-3)

@@ -1,0 +1,1 @@
+-- What the table of bytes tells of a byte. Assumes nothing.

@@ -1,0 +1,1 @@
+-- Lexemes packed into one number, and taken out of it. Assumes nothing.

@@ -1,0 +1,1 @@
+-- A pass over a source, lexeme by lexeme: what holds on the way. Assumes nothing.

@@ -1,0 +1,224 @@
+// The lexeme at a place, packed into one number: told from the table of bytes where every run ends before the source does, and else by
+// `lexeme_at`.
+use crate::Class;
+use crate::Edition;
+use crate::Lexeme;
+use crate::bytes;
+use crate::editions;
+use crate::entries;
+use crate::entries::DIGIT;
+use crate::entries::LETTER;
+use crate::entries::OTHER;
+use crate::entries::SPACE;
+use crate::kinds;
+use crate::lexemes;
+use crate::marks;
+use crate::numbers;
+use crate::runs;
+use crate::words;
+ghost use mathlib.Core.Path.{_≡_};
+ghost use mathlib.Core.Bool.{true};
+ghost use mathlib.Core.List.{[], _∷_};
+ghost use Prim.Native.Nat.{_+_, _*_, _≤_, _<_};
+ghost use lib.ListN.{length, drop, getD};
+ghost use Rattle.lexer.specs.Bytes.{isDigit, run};
+ghost use Rattle.lexer.specs.Words.{joins};
+ghost use Rattle.lexer.specs.Lexemes.{comment, word, unsignedNumber, number, text, mark, orElse, lexeme};
+ghost use Rattle.lexer.specs.executable.Scans.{lexemeSize};
+ghost use Rattle.lexer.specs.internal.Kinds.{ident, slash};
+ghost use Rattle.lexer.specs.internal.Editions.{editionOf};
+ghost use Rattle.lexer.specs.internal.Entries.{Entries, hasEntry, Bounded, byteEntry, letterEntry, longerEntry, otherEntry};
+ghost use Rattle.lexer.specs.internal.Packed.{packing, packed};
+
+// More than any place in a source.
+pub(crate) const PACKING: u64 = 4294967296;
+
+// A token of this kind that ends here.
+fn pack(kind: u32, end: usize) -> u64
+    requires { ⌜ end < packing ⌝ }
+    ensures { λ r. ⌜ r ≡ kind * packing + end ⌝ }
+{
+    kind as u64 * PACKING + end as u64
+}
+
+// A lexeme that begins at `at`.
+fn pack_lexeme(lexeme: Lexeme, at: usize) -> u64
+    requires { ⌜ at + lexemeSize lexeme < packing ⌝ }
+    ensures { λ r. ⌜ r ≡ packed at lexeme ⌝ }
+{
+    match lexeme {
+        Lexeme::End => 0,
+        Lexeme::Skipped(len) => (at + len) as u64,
+        Lexeme::Token(kind, len) => pack(kind, at + len),
+        Lexeme::BadByte => 0,
+        Lexeme::OpenString => 0,
+    }
+}
+
+// Where the bytes that stand at `from` and have an entry from `low` to `high` end. It is known that they end before the source does.
+fn run_of(source: &[u8], entries: &[u8; 256], from: usize, low: u8, high: u8) -> usize
+    requires { ⌜ Entries (now entries) ⌝ }
+    requires { ⌜ from + run (hasEntry low high) (drop from (now source)) < length (now source) ⌝ }
+    ensures { λ r. ⌜ r ≡ from + run (hasEntry low high) (drop from (now (source .entry))) ⌝ }
+{
+    let mut i = from;
+    loop {
+        let entry = entries::entry_of(entries, source[i]);
+        if entry < low {
+            return i;
+        }
+        if high < entry {
+            return i;
+        }
+        i += 1;
+    }
+}
+
+// The IDENT that a word which ends at `end` begins, with all that joins it.
+fn packed_ident(source: &[u8], end: usize) -> u64
+    requires { ⌜ (end < length (now source)) × (length (now source) < packing) ⌝ }
+    ensures { λ r. ⌜ r ≡ ident * packing + (end + joins (drop end (now (source .entry)))) ⌝ }
+{
+    if source[end] == b':' {
+        return pack(kinds::IDENT, words::joins_end(source, end));
+    }
+    pack(kinds::IDENT, end)
+}
+
+// The word at `at`, where a letter stands.
+fn packed_word(source: &[u8], entries: &[u8; 256], at: usize, entry: u8) -> u64
+    requires { ⌜ Entries (now entries) × (length (now source) < packing) ⌝ }
+    requires { ⌜ Bounded (now source) at × (letterEntry ≤ entry) × (byteEntry (getD (now source) at 0) ≡ entry) ⌝ }
+    ensures { λ r. ⌜ r ≡ packed at (word (drop at (now (source .entry)))) ⌝ }
+{
+    let next = at + 1;
+    let mut end = next;
+    if DIGIT <= entries::entry_of(entries, source[next]) {
+        end = run_of(source, entries, next + 1, DIGIT, entries::LAST);
+    } else {
+        let kind = (entry - LETTER) as u32;
+        if kind != kinds::IDENT {
+            return pack(kind, next);
+        }
+    }
+    packed_ident(source, end)
+}
+
+// The number without a minus at `at`, where a digit stands.
+fn packed_number(source: &[u8], entries: &[u8; 256], at: usize) -> u64
+    requires { ⌜ Entries (now entries) × (length (now source) < packing) ⌝ }
+    requires { ⌜ Bounded (now source) at × (isDigit (getD (now source) at 0) ≡ true) ⌝ }
+    ensures { λ r. ⌜ r ≡ packed at (unsignedNumber (drop at (now (source .entry)))) ⌝ }
+{
+    let whole = run_of(source, entries, at + 1, DIGIT, DIGIT);
+    if source[whole] != b'.' {
+        return pack(kinds::INT, whole);
+    }
+    let point = numbers::fraction_end(source, whole);
+    if point == whole {
+        return pack(kinds::INT, whole);
+    }
+    let end = numbers::exponent_end(source, point);
+    pack(kinds::FLOAT, end)
+}
+
+// The number or the mark at `at`, where a `-` stands.
+fn packed_minus(edition: Edition, source: &[u8], entries: &[u8; 256], at: usize) -> u64
+    requires { ⌜ Entries (now entries) × (length (now source) < packing) ⌝ }
+    requires { ⌜ Bounded (now source) at × (getD (now source) at 0 ≡ 0x2D) ⌝ }
+    ensures { λ r. ⌜ r ≡ packed at (orElse (number (editionOf edition) (drop at (now (source .entry)))) (mark (editionOf edition) (drop at (now (source .entry))))) ⌝ }
+{
+    let next = at + 1;
+    if editions::is_signed(edition) {
+        if entries::entry_of(entries, source[next]) == DIGIT {
+            return packed_number(source, entries, next);
+        }
+    }
+    pack(kinds::MINUS, next)
+}
+
+// The comment or the mark at `at`, where a `/` stands.
+fn packed_slash(source: &[u8], at: usize) -> u64
+    requires { ⌜ (at < length (now source)) × (length (now source) < packing) × (getD (now source) at 0 ≡ 0x2F) ⌝ }
+    ensures { λ r. ⌜ r ≡ packed at (orElse (comment (drop at (now (source .entry)))) (Lexeme.Token slash 1)) ⌝ }
+{
+    if bytes::begins_either(source, at + 1, b'/', b'/') {
+        return runs::run_end(source, at + 2, Class::Line) as u64;
+    }
+    pack(kinds::SLASH, at + 1)
+}
+
+// The string at `at`, where a backtick stands.
+fn packed_string(source: &[u8], at: usize) -> u64
+    requires { ⌜ (at < length (now source)) × (length (now source) < packing) × (getD (now source) at 0 ≡ 0x60) ⌝ }
+    ensures { λ r. ⌜ r ≡ packed at (text (drop at (now (source .entry)))) ⌝ }
+{
+    let end = runs::run_end(source, at + 1, Class::Text);
+    if end < source.len() {
+        return pack(kinds::STRING, end + 1);
+    }
+    0
+}
+
+// The mark at `at`, where a byte stands that is a mark and with which a longer one may begin.
+fn packed_longer(edition: Edition, source: &[u8], at: usize) -> u64
+    requires { ⌜ (at < length (now source)) × (length (now source) < packing) × (byteEntry (getD (now source) at 0) ≡ longerEntry) ⌝ }
+    ensures { λ r. ⌜ r ≡ packed at (mark (editionOf edition) (drop at (now (source .entry)))) ⌝ }
+{
+    let first = source[at];
+    let next = at + 1;
+    let kind = marks::pair_kind(edition, first, bytes::byte_at(source, next));
+    if kind == 0 {
+        return pack(bytes::mark_kind(first), next);
+    }
+    pack(kind, next + 1)
+}
+
+// The lexeme at `at`, where a byte stands that is no letter, and no mark with which no longer one begins.
+fn packed_other(edition: Edition, source: &[u8], entries: &[u8; 256], at: usize, entry: u8) -> u64
+    requires { ⌜ Entries (now entries) × (length (now source) < packing) ⌝ }
+    requires { ⌜ Bounded (now source) at × (otherEntry ≤ entry) × (entry < letterEntry) × (byteEntry (getD (now source) at 0) ≡ entry) ⌝ }
+    ensures { λ r. ⌜ r ≡ packed at (lexeme (editionOf edition) (drop at (now (source .entry)))) ⌝ }
+{
+    match entry {
+        entries::SPACE => run_of(source, entries, at + 1, SPACE, SPACE) as u64,
+        entries::DIGIT => packed_number(source, entries, at),
+        entries::MINUS => packed_minus(edition, source, entries, at),
+        entries::SLASH => packed_slash(source, at),
+        entries::BACKTICK => packed_string(source, at),
+        entries::LONGER => packed_longer(edition, source, at),
+        _ => pack_lexeme(marks::mark_at(edition, source, at), at),
+    }
+}
+
+// The lexeme at `at`, by the entry of the byte there. Every run from there on ends before the source does.
+fn packed_by_entry(edition: Edition, source: &[u8], entries: &[u8; 256], at: usize) -> u64
+    requires { ⌜ Entries (now entries) × (length (now source) < packing) × Bounded (now source) at ⌝ }
+    ensures { λ r. ⌜ r ≡ packed at (lexeme (editionOf edition) (drop at (now (source .entry)))) ⌝ }
+{
+    let entry = entries::entry_of(entries, source[at]);
+    if LETTER <= entry {
+        return packed_word(source, entries, at, entry);
+    }
+    if entry < OTHER {
+        return pack(entry as u32, at + 1);
+    }
+    packed_other(edition, source, entries, at, entry)
+}
+
+// The lexeme at `at`; `bounded` says that every run from there on ends before the source does.
+pub(crate) fn packed_lexeme(
+    edition: Edition,
+    source: &[u8],
+    entries: &[u8; 256],
+    at: usize,
+    bounded: bool,
+) -> u64
+    requires { ⌜ Entries (now entries) × (length (now source) < packing) × (bounded ≡ true → Bounded (now source) at) ⌝ }
+    ensures { λ r. ⌜ r ≡ packed at (lexeme (editionOf edition) (drop at (now (source .entry)))) ⌝ }
+{
+    if bounded {
+        return packed_by_entry(edition, source, entries, at);
+    }
+    pack_lexeme(lexemes::lexeme_at(edition, source, at), at)
+}
