@@ -12,7 +12,7 @@ use Rattle.lexer.specs.Tokens.{Token}
 use Rattle.lexer.specs.executable.Scans.{cleanly, scan}
 use Rattle.lexer.specs.Table.{tokenRow, tokenRows, filled}
 use Rattle.lexer.specs.Examples.{tokenFrom}
-use Rattle.lexer.proofs.Laws.Counts.{spelled17}
+use Rattle.lexer.proofs.Laws.Editions.{spelled17}
 use Rattle.lexer.proofs.Laws.Examples.{scans}
 use Rattle.lexer.proofs.Laws.Scans.{found-once}
 use Rattle.tree.specs.internal.RowKinds.{functionRow}

@@ -5,7 +5,7 @@ use mathlib.Core.List.{List}
 use Rattle.lexer.specs.Editions.{edition17}
 use Rattle.lexer.specs.Tokens.{Token}
 use Rattle.lexer.specs.executable.Scans.{cleanly, scan}
-use Rattle.lexer.proofs.Laws.Counts.{spelled17}
+use Rattle.lexer.proofs.Laws.Editions.{spelled17}
 use Rattle.tree.specs.internal.RowKinds.{programRow, namedTypeRow}
 use Rattle.grammar.specs.Languages.{language17}
 use Rattle.grammar.proofs.Laws.Table17.{hints17, passes17, steady17}

@@ -18,16 +18,16 @@ abbrev pub kind17 : List ℕ → ℕ
 kind17 = kindOf (edition17 .marks)
 
 -- an edition whose marks are those of 1.7, but that some of two bytes may be missing
-pub record Fit (e : Edition) : Type 0 where
+pub record FitEdition (e : Edition) : Type 0 where
   pub spells : spelled (e .marks) ≡ true
   pub longest-three : longest (e .marks) ≡ 3
   pub one : (a : ℕ) → kindOf (e .marks) (a ∷ []) ≡ kind17 (a ∷ [])
   pub two : (a b : ℕ) → kind17 (a ∷ b ∷ []) ≡ 0 → kindOf (e .marks) (a ∷ b ∷ []) ≡ 0
   pub three : (a b c : ℕ) → kindOf (e .marks) (a ∷ b ∷ c ∷ []) ≡ kind17 (a ∷ b ∷ c ∷ [])
 
-pub fit17 : Fit edition17
+pub fits17 : FitEdition edition17
 unfolding and spelledMarks longest
-fit17 = record { spells = refl; longest-three = refl; one = λ a. refl; two = λ a b h. h; three = λ a b c. refl }
+fits17 = record { spells = refl; longest-three = refl; one = λ a. refl; two = λ a b h. h; three = λ a b c. refl }
 
 -- a kind that a test picks is 0 only where the test fails and the other kind is 0
 not-picked : (t : Bool) (k n : ℕ) → pick t (suc k) n ≡ 0 → (t ≡ false) × (n ≡ 0)
@@ -47,9 +47,9 @@ two11 e n l g left right q h =
     let not-right = not-picked right 39 _ (not-left .1) in
     rw (not-equal .0, not-unequal .0, not-less .0, not-greater .0, not-right .1)
 
-pub fit11 : Fit edition11
+pub fits11 : FitEdition edition11
 unfolding and same kindOf spelledMarks longest
-fit11 = record {
+fits11 = record {
   spells = refl;
   longest-three = refl;
   one = λ a. refl;
@@ -67,6 +67,10 @@ fit11 = record {
   three = λ a b c. refl;
 }
 
-pub fit-of : (edition : NamedEdition) → Fit (editionOf edition)
-fit-of V11 = fit11
-fit-of V17 = fit17
+pub fits : (edition : NamedEdition) → FitEdition (editionOf edition)
+fits V11 = fits11
+fits V17 = fits17
+
+-- the marks of 1.7 are spelled
+pub spelled17 : spelled (edition17 .marks) ≡ true
+spelled17 = fits17 .spells

@@ -8,7 +8,7 @@ use Rattle.lexer.specs.Editions.{edition17}
 use Rattle.lexer.specs.Tokens.{Token}
 use Rattle.lexer.specs.executable.Scans.{cleanly, scan}
 use Rattle.lexer.specs.Table.{sourceLimit}
-use Rattle.lexer.proofs.Laws.Counts.{spelled17}
+use Rattle.lexer.proofs.Laws.Editions.{spelled17}
 use Rattle.lexer.proofs.Laws.Places.{tokens-few, fault-placed}
 use Rattle.typenames.proofs.Laws.Entries.{checked-place}
 use Rattle.grammar.specs.Languages.{language17}

@@ -18,7 +18,7 @@ use Rattle.lexer.specs.internal.Tokenized.{endedWith, scanned, counted, withRoo
 use Rattle.lexer.specs.declared.Scanned.the-variants.{Tokens}
 use Rattle.lexer.specs.declared.Scanned.{Scanned}
 use Rattle.lexer.proofs.Laws.Rows.{filled-length, filled-rows}
-use Rattle.lexer.proofs.Laws.Counts.{spelled17}
+use Rattle.lexer.proofs.Laws.Editions.{spelled17}
 use Rattle.lexer.proofs.Laws.Places.{fault-placed}
 use Rattle.typenames.specs.NameList.{nameLimit, entries, firstBad, checked}
 use Rattle.typenames.specs.declared.Checked.{Checked}

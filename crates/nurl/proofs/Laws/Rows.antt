@@ -17,7 +17,7 @@ use Rattle.lexer.specs.executable.Scans.{cleanly, scan}
 use Rattle.lexer.specs.Table.{sourceLimit, tokenRoom}
 use Rattle.lexer.specs.internal.TokenRows.{rowsOf, rowAt, noToken}
 use Rattle.lexer.specs.Items.{Item, items}
-use Rattle.lexer.proofs.Laws.Counts.{spelled17}
+use Rattle.lexer.proofs.Laws.Editions.{spelled17}
 use Rattle.lexer.proofs.Laws.Rows.{rows-of-length}
 use Rattle.lexer.proofs.Laws.Places.{Placed, placed-none, placed-more, tokens-placed, tokens-few}
 use Rattle.typenames.specs.TypeNames.{opening17}

@@ -12,7 +12,7 @@ use borrow.Author.Tests.{le-leb}
 use Rattle.lexer.specs.Tests.{pick}
 use Rattle.lexer.specs.Text.{bytes}
 use Rattle.lexer.specs.Table.{tokenRoom}
-use Rattle.lexer.proofs.Laws.Counts.{spelled17}
+use Rattle.lexer.proofs.Laws.Editions.{spelled17}
 use Rattle.tree.specs.TreeTable.{Row, treeWidth, treeRoom, treeRows, placed, columnAt, treeRowAt}
 use Rattle.tree.specs.internal.RowKinds.{namedTypeRow}
 use Rattle.tree.proofs.Laws.Trees.{length-treeRows}
