@@ -19,7 +19,7 @@ ghost use Rattle.lexer.specs.Tests.{and, pick};
 ghost use Rattle.lexer.specs.Lexemes.{lexeme};
 ghost use Rattle.lexer.specs.Table.{sourceLimit, tokenWidth, tokenRoom, kept};
 ghost use Rattle.lexer.specs.executable.Scans.{Scan, scan};
-ghost use Rattle.lexer.specs.internal.Leaves.{rowNumbers};
+ghost use Rattle.lexer.specs.internal.Leaves.{blank, rowNumbers};
 ghost use Rattle.lexer.specs.internal.Editions.{editionOf};
 ghost use Rattle.lexer.specs.internal.Entries.{Entries, Stop};
 ghost use Rattle.lexer.specs.internal.Tokenized.{scanned, endedBy};
@@ -27,7 +27,7 @@ ghost use Rattle.lexer.specs.internal.Tokenized.{scanned, endedBy};
 // The place after the blank at `at`, or `at` where none stands or nothing is known of the bytes there.
 fn after_blank(source: &[u8], at: usize, bounded: bool) -> usize
     requires { ⌜ (bounded ≡ true → at < length (now source)) ⌝ }
-    ensures { λ r. ⌜ r ≡ at + pick (and bounded (eqb (getD (now (source .entry)) at 0) 32)) 1 0 ⌝ }
+    ensures { λ r. ⌜ r ≡ at + pick (and bounded (eqb (getD (now (source .entry)) at 0) blank)) 1 0 ⌝ }
 {
     if bounded {
         if source[at] == b' ' {

@@ -49,6 +49,10 @@ module _ (e : Edition) (s : List ℕ) where
   unfolding counted
   clean-count n h = counted-by n (ltb sourceLimit (length s)) refl h
 
+  pub clean-scanned : (n : ℕ) → Clean e s n → scanned (scan e s) ≡ Tokens n
+  unfolding scanned endedWith
+  clean-scanned n k = rw (k .ends, k .count)
+
   module _ (table : List ℕ) where
     pub answer-refused : (number place : ℕ) → counted e s ≡ Refused number place
         → Answered e s table (Refused number place) table

@@ -4,8 +4,8 @@ use Prim.Native.Nat.{ℕ, zero, suc, _+_, _*_, _<_, _≤_}
 use mathlib.Core.Path.{_≡_, refl, _∙_, ap}
 use mathlib.Core.List.{List, [], _∷_, _++_, append-nil, append-assoc}
 use native.Mathlib.Omega.{arith}
-use lib.ListN.{length, take, drop, getD, length-append, length-drop, List·getD-append, List·getD-eq-default}
-use lib.Seq.{sets, sets-eq, take-at, take-all, drop-drop, drop-append-add}
+use lib.ListN.{length, take, drop, getD, length-append, length-take, length-drop, List·getD-append, List·getD-eq-default}
+use lib.Seq.{sets, sets-eq, take-at, take-all, take-append-le, drop-drop, drop-append-add}
 use Rattle.lexer.specs.Tokens.{Token}
 use Rattle.lexer.specs.Table.{tokenWidth, tokenRoom, tokenRow, tokenRows, filled, kept}
 use Rattle.lexer.specs.internal.TokenRows.{rowsOf, noToken, rowAt}
@@ -55,6 +55,23 @@ pub kept-all : (source : List ℕ) (ts : List Token) (table : List ℕ) → leng
 unfolding kept
 kept-all source ts table fits = rw (take-all (tokenRoom table) ts fits)
 
+-- .. and before there are any, nothing is
+pub kept-none : (source table : List ℕ) → kept source [] table ≡ table
+unfolding kept
+kept-none source table = kept-all source [] table (omega arith) ∙ filled-none source table
+
+module _ (source : List ℕ) (ts : List Token) (table : List ℕ) where
+  -- what is kept takes no more rows than there are
+  kept-fits : length (take (tokenRoom table) ts) * tokenWidth ≤ length table
+  kept-fits = let l = length-take (tokenRoom table) ts in omega arith
+
+  pub kept-length : length (kept source ts table) ≡ length table
+  unfolding kept
+  kept-length = filled-length source (take (tokenRoom table) ts) table kept-fits
+
+  pub kept-room : tokenRoom (kept source ts table) ≡ tokenRoom table
+  kept-room = rw kept-length
+
 -- one row more
 module _ (source : List ℕ) (ts : List Token) (t : Token) (table : List ℕ) where
   last-row : drop (length ts * tokenWidth + tokenWidth) (filled source ts table) ≡ drop (length ts * tokenWidth + tokenWidth) table
@@ -75,6 +92,18 @@ module _ (source : List ℕ) (ts : List Token) (t : Token) (table : List ℕ) wh
       let r = row-length source t in
       sets-eq (tokenRow source t) (filled source ts table) n (omega arith)
       ∙ rw (r, last-row, take-at (tokenRows source ts) (drop n table) n (rows-length source ts), more-rows, rows-append, append-nil, append-assoc)
+
+-- one token more, where there is room for it and where there is none
+module _ (source : List ℕ) (ts : List Token) (t : Token) (table : List ℕ) where
+  pub kept-more : length ts < tokenRoom table
+      → sets (kept source ts table) (length ts * tokenWidth) (tokenRow source t) ≡ kept source (ts ++ (t ∷ [])) table
+  kept-more room =
+      let l = length-append ts (t ∷ []) in
+      rw (kept-all source ts table (omega arith), kept-all source (ts ++ (t ∷ [])) table (omega arith)) (filled-more source ts t table (omega arith))
+
+  pub kept-full : tokenRoom table ≤ length ts → kept source (ts ++ (t ∷ [])) table ≡ kept source ts table
+  unfolding kept
+  kept-full full = rw (take-append-le (tokenRoom table) ts (t ∷ []) full)
 
 -- as many rows as there is room for
 pub rows-of-length : (table : List ℕ) → length (rowsOf table) ≡ tokenRoom table

@@ -1,11 +1,12 @@
 -- How far a class of bytes runs, at a place of a list. Assumes nothing.
-use Prim.Native.Nat.{ℕ, suc, _+_, _≤_, _<_, zero-le, suc-le-suc}
+use Prim.Native.Nat.{ℕ, zero, suc, _+_, _-_, _≤_, _<_, zero-le, suc-le-suc}
 use mathlib.Core.Path.{_≡_, refl, _∙_, sym}
 use mathlib.Core.Bool.{Bool, true, false}
 use mathlib.Core.List.{List, [], _∷_}
 use lib.ListN.{length, drop, getD, drop-of-length-le}
 use lib.Seq.{drop-cons}
 use native.Mathlib.Numerals.{add-one}
+use native.Mathlib.Omega.{arith}
 use native.Mathlib.Nat.{add-zero, add-suc, suc-add}
 use borrow.Author.Tests.{eq-eqb, ne-eqb}
 use Rattle.lexer.specs.Bytes.{run}
@@ -41,6 +42,24 @@ module _ (p : ℕ → Bool) (s : List ℕ) (i : ℕ) where
 
   pub run-ends : i < length s → p (getD s i 0) ≡ false → run p (drop i s) ≡ 0
   run-ends h e = rw (drop-cons s i 0 h) (run-stop p _ _ e)
+
+-- a byte that the test lets out ends every run before it
+module _ (p : ℕ → Bool) (s : List ℕ) where
+  run-short-by : (n at : ℕ) (t : Bool) → at < length s → p (getD s at 0) ≡ t → run p (drop (at + 1) s) ≤ n → run p (drop at s) ≤ suc n
+  run-short-by n at true inside goes later = let on = run-goes-on p s at inside goes in omega arith
+  run-short-by n at false inside ends later = rw (run-ends p s at inside ends) zero-le
+
+  run-short : (n at : ℕ) → at + n < length s → p (getD s (at + n) 0) ≡ false → run p (drop at s) ≤ n
+  run-short zero at inside out = rw (run-ends p s at (rw add-zero at inside) (rw add-zero at out)) zero-le
+  run-short (suc n) at inside out =
+      let next : at + suc n ≡ (at + 1) + n = omega arith in
+      run-short-by n at (p (getD s at 0)) (omega arith) refl (run-short n (at + 1) (omega arith) (rw next at out))
+
+  pub run-upto : (at i : ℕ) → at ≤ i → i < length s → p (getD s i 0) ≡ false → at + run p (drop at s) ≤ i
+  run-upto at i before inside out =
+      let here : at + (i - at) ≡ i = omega arith in
+      let short = run-short (i - at) at (rw here inside) (rw here out) in
+      omega arith
 
 -- A run that is followed byte by byte, from `at` on: the place reached and what is left to run make the whole (`Goes`).
 module _ (p : ℕ → Bool) (s : List ℕ) (at i : ℕ) (so-far : Goes p s at i) where

@@ -27,6 +27,10 @@ byteClass b =
 abbrev pub isNot : ℕ → ℕ → Bool
 isNot stop b = not (eqb b stop)
 
+-- the space between words
+abbrev pub blank : ℕ
+blank = 32
+
 -- how many bytes are looked at in one turn
 abbrev pub block : ℕ
 block = 32

@@ -1,27 +1,38 @@
+-- `lexer::passes::after_blank` meets its contract. Assumes nothing.
+use native.Mathlib.Omega.{arith}
+use borrow.Author.Needs.{needs}
+use borrow.Author.Tests.{eq-eqb, ne-eqb}
+use Rattle.lexer.specs.Tests.{and}
 use Rattle.lexer.proofs.passes.after_blank.Statement.{statement}
 use Rattle.lexer.proofs.passes.after_blank.Tie as tie
-use Rattle.lexer.proofs.passes.after_blank.Reads as reads
-use Rattle.lexer.proofs.passes.after_blank.Lts as lts
 
--- src/passes.rt:33:12
 shared-slice-read-if2 : tie.Need-shared-slice-read-if2
-shared-slice-read-if2 c = ?
+shared-slice-read-if2 c =
+    let pre = c .before .before .pre in
+    pre (c .before .if1 .taken)
 
--- src/passes.rt:34:20
 add-result : tie.Need-add-result
-add-result c = ?
+add-result c =
+    let pre = c .before .before .before .pre in
+    let inside = pre (c .before .before .if1 .taken) in
+    let whole = c .before .shared-slice-known .given in
+    search needs
 
--- src/passes.rt:34:13
 returns : tie.Need-returns
-returns c = ?
+unfolding and
+returns c =
+    let if1 = c .before .before .if1 in
+    rw (if1 .taken, eq-eqb _ _ (c .if2 .taken))
 
--- src/passes.rt:28:1
 returns-2 : tie.Need-returns-2
-returns-2 c = ?
+unfolding and
+returns-2 c =
+    let if1 = c .before .before .if1 in
+    rw (if1 .taken, ne-eqb _ _ (c .if2 .left)) (omega arith)
 
--- src/passes.rt:28:1
 returns-3 : tie.Need-returns-3
-returns-3 c = ?
+unfolding and
+returns-3 c = rw (c .if1 .left) (omega arith)
 
 pub after-blank-spec : {M : Type 1} → statement M
 after-blank-spec =

@@ -1,46 +1,69 @@
+-- `lexer::passes::last_stop` meets its contract: a byte over which no run goes on ends every run before it. Assumes nothing.
+use Prim.Native.Nat.{ℕ, _+_, _≤_, _<_}
+use mathlib.Core.Path.{_≡_}
+use mathlib.Core.Bool.{false}
+use mathlib.Core.List.{List}
+use native.Mathlib.Omega.{arith}
+use lib.ListN.{length, getD}
+use borrow.Author.Needs.{needs}
+use borrow.Author.Tests.{lt-leb}
+use Rattle.lexer.specs.Tests.{and, between}
+use Rattle.lexer.specs.internal.Entries.{byteEntry, hasEntry, spaceEntry, lastEntry, Stop}
+use Rattle.lexer.proofs.Laws.Runs.{run-upto}
 use Rattle.lexer.proofs.passes.last_stop.Statement.{statement}
 use Rattle.lexer.proofs.passes.last_stop.Tie as tie
-use Rattle.lexer.proofs.passes.last_stop.Reads as reads
-use Rattle.lexer.proofs.passes.last_stop.Lts as lts
-use Rattle.lexer.proofs.entries.entry_of.Reads as entry-of-reads
+
+-- no run goes on over a byte whose entry is lower
+low-entry : (b : ℕ) → byteEntry b < spaceEntry → hasEntry spaceEntry lastEntry b ≡ false
+unfolding between and
+low-entry b h = rw (lt-leb _ _ h)
+
+stops : (s : List ℕ) (i : ℕ) → i < length s → byteEntry (getD s i 0) < spaceEntry → Stop s i
+stops s i inside low =
+    λ at before.
+    let ends = low-entry _ low in
+    let here = run-upto (hasEntry spaceEntry lastEntry) s at i (omega arith) inside ends in
+    let next = run-upto (hasEntry spaceEntry lastEntry) s (at + 1) i (omega arith) inside ends in
+    (omega arith, omega arith)
 
 abbrev Inv-loop : tie.InvT-loop
-Inv-loop source entries i₀ i = ?
+Inv-loop source entries i₀ i = i ≤ length source
 
 abbrev μ-loop : tie.MeasureT-loop
-μ-loop source entries i₀ i = ?
+μ-loop source entries i₀ i = i
 
--- src/passes.rt:103:5
 loop-holds : tie.Need-loop-holds Inv-loop μ-loop
-loop-holds c = ?
+loop-holds c = search needs
 
--- src/passes.rt:104:9
 sub-i : tie.Need-sub-i Inv-loop μ-loop
-sub-i c = ?
+sub-i c = search needs
 
--- src/passes.rt:105:39
 shared-slice-read-entry-of : tie.Need-shared-slice-read-entry-of Inv-loop μ-loop
-shared-slice-read-entry-of c = ?
+shared-slice-read-entry-of c =
+    let some = c .before .loop-test .taken in
+    let upto = c .before .before .loop .inv in
+    omega arith
 
--- src/passes.rt:105:12
 entry-of-requires : tie.Need-entry-of-requires Inv-loop μ-loop
-entry-of-requires c κs = ?
+entry-of-requires c κs = search needs
 
--- src/passes.rt:106:13
 returns : tie.Need-returns Inv-loop μ-loop
-returns c = ?
+returns c =
+    let args = c .before .before .before .before .before .before .args in
+    let some = c .before .before .before .loop-test .taken in
+    let upto = c .before .before .before .before .loop .inv in
+    let entry = c .before .entry-of .ensures in
+    let low = c .if1 .taken in
+    stops (args .source .now) _ (omega arith) (rw entry at low)
 
--- src/passes.rt:103:5
 loop-less : tie.Need-loop-less Inv-loop μ-loop
-loop-less c = ?
+loop-less c = let some = c .before .before .before .loop-test .taken in omega arith
 
--- src/passes.rt:103:5
 loop-again : tie.Need-loop-again Inv-loop μ-loop
-loop-again c = ?
+loop-again c = let upto = c .before .before .before .before .loop .inv in omega arith
 
--- src/passes.rt:98:1
 returns-2 : tie.Need-returns-2 Inv-loop μ-loop
-returns-2 c = ?
+returns-2 c = λ at before. absurd (omega arith)
 
 pub last-stop-spec : {M : Type 1} → statement M
 last-stop-spec =

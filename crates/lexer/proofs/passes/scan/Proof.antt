@@ -1,26 +1,30 @@
+-- `lexer::passes::scan` meets its contract: the table of bytes is the definition's, by computation. Assumes nothing.
+use mathlib.Core.Path.{_∙_}
 use borrow.Author.Needs.{needs}
+use Rattle.lexer.specs.Tests.{and, or, between, among}
+use Rattle.lexer.specs.Bytes.{isSpace, isDigit, isLetter}
+use Rattle.lexer.specs.Spellings.{same, kindOf, reserved, spelledMarks}
+use Rattle.lexer.specs.Words.{orIdent, wordKind}
+use Rattle.lexer.specs.internal.Entries.{markEntry, byteEntry}
+use Rattle.lexer.proofs.Laws.Computed.{entry}
 use Rattle.lexer.proofs.passes.scan.Statement.{statement}
 use Rattle.lexer.proofs.passes.scan.Tie as tie
-use Rattle.lexer.proofs.passes.scan.Reads as reads
-use Rattle.lexer.proofs.passes.scan.Lts as lts
-use Rattle.lexer.proofs.passes.last_stop.Reads as last-stop-reads
-use Rattle.lexer.proofs.passes.scan_lexemes.Reads as scan-lexemes-reads
 
--- src/passes.rt:119:9
 last-stop-requires : tie.Need-last-stop-requires
-last-stop-requires c κs = ?
+unfolding byteEntry markEntry isSpace isDigit isLetter wordKind orIdent kindOf reserved same spelledMarks and or between among
+last-stop-requires c κs = λ b below. entry byteEntry 256 b below
 
--- src/passes.rt:120:5
 scan-lexemes-requires : tie.Need-scan-lexemes-requires
-scan-lexemes-requires c κs = ?
+unfolding byteEntry markEntry isSpace isDigit isLetter wordKind orIdent kindOf reserved same spelledMarks and or between among
+scan-lexemes-requires c κs =
+    let pre = c .before .before .before .before .before .before .pre in
+    (pre, λ b below. entry byteEntry 256 b below, c .before .before .last-stop .ensures)
 
--- src/passes.rt:113:1
 same-length : tie.Need-same-length
 same-length c = search needs
 
--- src/passes.rt:113:1
 returns : tie.Need-returns
-returns c = search needs
+returns c = c .before .before .scan-lexemes .ensures
 
 pub scan-spec : {M : Type 1} → statement M
 scan-spec = tie.close (tie.spec last-stop-requires scan-lexemes-requires same-length returns)

@@ -5,7 +5,7 @@ use mathlib.Core.Path.{refl, _∙_}
 use native.Mathlib.Omega.{arith}
 use lib.ListN.{length}
 use Rattle.lexer.specs.internal.Leaves.{isNot, Goes}
-use Rattle.lexer.proofs.Laws.Tests.{not-false}
+use Rattle.lexer.proofs.Laws.Tests.{not-true, not-false}
 use Rattle.lexer.proofs.runs.stop_end.Statement.{statement}
 use Rattle.lexer.proofs.runs.stop_end.Tie as tie
 use borrow.Author.Needs.{needs}
@@ -15,6 +15,9 @@ Inv-loop source at stop last i₀ i = Goes (isNot stop) source at i
 
 abbrev μ-loop : tie.MeasureT-loop
 μ-loop source at stop last i₀ i = length source - i
+
+sub-bytes-from : tie.Need-sub-bytes-from Inv-loop μ-loop
+sub-bytes-from c = omega arith
 
 bytes-from-requires : tie.Need-bytes-from-requires Inv-loop μ-loop
 bytes-from-requires c κs = search needs
@@ -29,13 +32,15 @@ block-passes-requires c κs =
     let some = c .loop-test .taken in
     omega arith
 
-stop-after-requires : tie.Need-stop-after-requires Inv-loop μ-loop
-stop-after-requires c κs = search needs
+stop-ahead-requires : tie.Need-stop-ahead-requires Inv-loop μ-loop
+stop-ahead-requires c κs =
+    let block-passes = c .before .block-passes in
+    block-passes .ensures .1 (not-true _ (c .if1 .taken))
 
 returns : tie.Need-returns Inv-loop μ-loop
 returns c =
     let loop = c .before .before .before .before .loop in
-    c .stop-after .ensures ∙ loop .inv
+    c .stop-ahead .ensures ∙ loop .inv
 
 add-i : tie.Need-add-i Inv-loop μ-loop
 add-i c =
@@ -57,15 +62,15 @@ loop-again : tie.Need-loop-again Inv-loop μ-loop
 loop-again c =
     let block-passes = c .before .block-passes in
     let loop = c .before .before .before .loop in
-    block-passes .ensures (not-false _ (c .if1 .left)) ∙ loop .inv
+    block-passes .ensures .0 (not-false _ (c .if1 .left)) ∙ loop .inv
 
-stop-after-requires-2 : tie.Need-stop-after-requires-2 Inv-loop μ-loop
-stop-after-requires-2 c κs = search needs
+stop-after-requires : tie.Need-stop-after-requires Inv-loop μ-loop
+stop-after-requires c κs = search needs
 
 returns-2 : tie.Need-returns-2 Inv-loop μ-loop
 returns-2 c =
     let loop = c .before .before .loop in
-    c .stop-after2 .ensures ∙ loop .inv
+    c .stop-after .ensures ∙ loop .inv
 
 pub stop-end-spec : {M : Type 1} → statement M
 stop-end-spec =
@@ -73,13 +78,14 @@ stop-end-spec =
     (tie.spec
     Inv-loop
     μ-loop
+    sub-bytes-from
     bytes-from-requires
     loop-holds
     block-passes-requires
-    stop-after-requires
+    stop-ahead-requires
     returns
     add-i
     loop-less
     loop-again
-    stop-after-requires-2
+    stop-after-requires
     returns-2)

@@ -1,25 +1,28 @@
+-- `lexer::tokens::count_tokens` meets its contract. Assumes nothing.
+use mathlib.Core.Path.{_∙_, sym}
 use borrow.Author.Needs.{needs}
+use borrow.Author.Tests.{lt-ltb, le-ltb}
+use Rattle.lexer.specs.internal.Tokenized.{counted, scannedValues}
+use Rattle.lexer.proofs.Laws.Answers.{valued}
 use Rattle.lexer.proofs.tokens.count_tokens.Statement.{statement}
 use Rattle.lexer.proofs.tokens.count_tokens.Tie as tie
-use Rattle.lexer.proofs.tokens.count_tokens.Reads as reads
-use Rattle.lexer.proofs.tokens.count_tokens.Lts as lts
-use Rattle.lexer.proofs.passes.scan.Reads as scan-reads
 
--- src/tokens.rt:20:9
 returns : tie.Need-returns
-returns c = ?
+unfolding counted
+returns c = valued scannedValues _ _ (rw (lt-ltb _ _ (c .if1 .taken)))
 
--- src/tokens.rt:23:35
 slice-aggregate-scan : tie.Need-slice-aggregate-scan
 slice-aggregate-scan c = search needs
 
--- src/tokens.rt:23:5
 scan-requires : tie.Need-scan-requires
 scan-requires c κs = search needs
 
--- src/tokens.rt:15:1
 returns-2 : tie.Need-returns-2
-returns-2 c = ?
+unfolding counted
+returns-2 c =
+    let if1 = c .before .before .before .if1 in
+    let scan = c .before .scan in
+    valued scannedValues _ _ (rw (le-ltb _ _ (if1 .left)) (scan .ensures .0))
 
 pub count-tokens-spec : {M : Type 1} → statement M
 count-tokens-spec = tie.close (tie.spec returns slice-aggregate-scan scan-requires returns-2)
