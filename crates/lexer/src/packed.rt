@@ -1,4 +1,4 @@
-// The lexeme at a place, packed into one number: told from the table of bytes where every run ends before the source does, and else by
+// The lexeme at a place, packed into one number: told by the table of bytes where a word would end before the source does, and else by
 // `lexeme_at`.
 use crate::Class;
 use crate::Edition;
@@ -6,10 +6,6 @@ use crate::Lexeme;
 use crate::bytes;
 use crate::editions;
 use crate::entries;
-use crate::entries::DIGIT;
-use crate::entries::LETTER;
-use crate::entries::OTHER;
-use crate::entries::SPACE;
 use crate::kinds;
 use crate::lexemes;
 use crate::marks;
@@ -55,8 +51,23 @@ fn pack_lexeme(lexeme: Lexeme, at: usize) -> u64
     }
 }
 
+// Where the bytes that stand at `from` and have this entry end.
+fn entry_end(source: &[u8], entries: &[u8; 256], from: usize, entry: u8) -> usize
+    requires { ⌜ Entries (now entries) ⌝ }
+    ensures { λ r. ⌜ r ≡ from + run (hasEntry entry entry) (drop from (now (source .entry))) ⌝ }
+{
+    let mut i = from;
+    while i < source.len() {
+        if entries::entry_of(entries, source[i]) != entry {
+            return i;
+        }
+        i += 1;
+    }
+    i
+}
+
 // Where the bytes that stand at `from` and have an entry from `low` to `high` end. It is known that they end before the source does.
-fn run_of(source: &[u8], entries: &[u8; 256], from: usize, low: u8, high: u8) -> usize
+fn bounded_end(source: &[u8], entries: &[u8; 256], from: usize, low: u8, high: u8) -> usize
     requires { ⌜ Entries (now entries) ⌝ }
     requires { ⌜ from + run (hasEntry low high) (drop from (now source)) < length (now source) ⌝ }
     ensures { λ r. ⌜ r ≡ from + run (hasEntry low high) (drop from (now (source .entry))) ⌝ }
@@ -93,10 +104,10 @@ fn packed_word(source: &[u8], entries: &[u8; 256], at: usize, entry: u8) -> u64
 {
     let next = at + 1;
     let mut end = next;
-    if DIGIT <= entries::entry_of(entries, source[next]) {
-        end = run_of(source, entries, next + 1, DIGIT, entries::LAST);
+    if entries::DIGIT <= entries::entry_of(entries, source[next]) {
+        end = bounded_end(source, entries, next + 1, entries::DIGIT, entries::LAST);
     } else {
-        let kind = (entry - LETTER) as u32;
+        let kind = (entry - entries::LETTER) as u32;
         if kind != kinds::IDENT {
             return pack(kind, next);
         }
@@ -104,16 +115,11 @@ fn packed_word(source: &[u8], entries: &[u8; 256], at: usize, entry: u8) -> u64
     packed_ident(source, end)
 }
 
-// The number without a minus at `at`, where a digit stands.
-fn packed_number(source: &[u8], entries: &[u8; 256], at: usize) -> u64
-    requires { ⌜ Entries (now entries) × (length (now source) < packing) ⌝ }
-    requires { ⌜ Bounded (now source) at × (isDigit (getD (now source) at 0) ≡ true) ⌝ }
+// The number without a minus at `at`, whose digits end at `whole`.
+fn packed_number(source: &[u8], at: usize, whole: usize) -> u64
+    requires { ⌜ (length (now source) < packing) × (at < whole) × (whole ≡ at + run isDigit (drop at (now source))) ⌝ }
     ensures { λ r. ⌜ r ≡ packed at (unsignedNumber (drop at (now (source .entry)))) ⌝ }
 {
-    let whole = run_of(source, entries, at + 1, DIGIT, DIGIT);
-    if source[whole] != b'.' {
-        return pack(kinds::INT, whole);
-    }
     let point = numbers::fraction_end(source, whole);
     if point == whole {
         return pack(kinds::INT, whole);
@@ -125,13 +131,14 @@ fn packed_number(source: &[u8], entries: &[u8; 256], at: usize) -> u64
 // The number or the mark at `at`, where a `-` stands.
 fn packed_minus(edition: Edition, source: &[u8], entries: &[u8; 256], at: usize) -> u64
     requires { ⌜ Entries (now entries) × (length (now source) < packing) ⌝ }
-    requires { ⌜ Bounded (now source) at × (getD (now source) at 0 ≡ 0x2D) ⌝ }
+    requires { ⌜ (at < length (now source)) × (getD (now source) at 0 ≡ 0x2D) ⌝ }
     ensures { λ r. ⌜ r ≡ packed at (orElse (number (editionOf edition) (drop at (now (source .entry)))) (mark (editionOf edition) (drop at (now (source .entry))))) ⌝ }
 {
     let next = at + 1;
     if editions::is_signed(edition) {
-        if entries::entry_of(entries, source[next]) == DIGIT {
-            return packed_number(source, entries, next);
+        let whole = entry_end(source, entries, next, entries::DIGIT);
+        if next < whole {
+            return packed_number(source, next, whole);
         }
     }
     pack(kinds::MINUS, next)
@@ -161,52 +168,55 @@ fn packed_string(source: &[u8], at: usize) -> u64
 }
 
 // The mark at `at`, where a byte stands that is a mark and with which a longer one may begin.
-fn packed_longer(edition: Edition, source: &[u8], at: usize) -> u64
-    requires { ⌜ (at < length (now source)) × (length (now source) < packing) × (byteEntry (getD (now source) at 0) ≡ longerEntry) ⌝ }
+fn packed_longer(edition: Edition, source: &[u8], at: usize, entry: u8) -> u64
+    requires { ⌜ (at < length (now source)) × (length (now source) < packing) ⌝ }
+    requires { ⌜ (longerEntry ≤ entry) × (entry < otherEntry) × (byteEntry (getD (now source) at 0) ≡ entry) ⌝ }
     ensures { λ r. ⌜ r ≡ packed at (mark (editionOf edition) (drop at (now (source .entry)))) ⌝ }
 {
-    let first = source[at];
     let next = at + 1;
-    let kind = marks::pair_kind(edition, first, bytes::byte_at(source, next));
+    let kind = marks::pair_kind(edition, source[at], bytes::byte_at(source, next));
     if kind == 0 {
-        return pack(bytes::mark_kind(first), next);
+        return pack((entry - entries::LONGER) as u32, next);
     }
     pack(kind, next + 1)
 }
 
-// The lexeme at `at`, where a byte stands that is no letter, and no mark with which no longer one begins.
+// The lexeme at `at`, where a byte stands that is no letter and no mark by itself alone.
 fn packed_other(edition: Edition, source: &[u8], entries: &[u8; 256], at: usize, entry: u8) -> u64
     requires { ⌜ Entries (now entries) × (length (now source) < packing) ⌝ }
-    requires { ⌜ Bounded (now source) at × (otherEntry ≤ entry) × (entry < letterEntry) × (byteEntry (getD (now source) at 0) ≡ entry) ⌝ }
+    requires { ⌜ Bounded (now source) at × (longerEntry ≤ entry) × (entry < letterEntry) × (byteEntry (getD (now source) at 0) ≡ entry) ⌝ }
     ensures { λ r. ⌜ r ≡ packed at (lexeme (editionOf edition) (drop at (now (source .entry)))) ⌝ }
 {
     match entry {
-        entries::SPACE => run_of(source, entries, at + 1, SPACE, SPACE) as u64,
-        entries::DIGIT => packed_number(source, entries, at),
+        entries::SPACE => entry_end(source, entries, at + 1, entries::SPACE) as u64,
+        entries::DIGIT => {
+            let whole = bounded_end(source, entries, at + 1, entries::DIGIT, entries::DIGIT);
+            packed_number(source, at, whole)
+        }
         entries::MINUS => packed_minus(edition, source, entries, at),
         entries::SLASH => packed_slash(source, at),
         entries::BACKTICK => packed_string(source, at),
-        entries::LONGER => packed_longer(edition, source, at),
-        _ => pack_lexeme(marks::mark_at(edition, source, at), at),
+        entries::OTHER => pack_lexeme(marks::mark_at(edition, source, at), at),
+        _ => packed_longer(edition, source, at, entry),
     }
 }
 
-// The lexeme at `at`, by the entry of the byte there. Every run from there on ends before the source does.
+// The lexeme at `at`, by the entry of the byte there. A word that stands there ends before the source does.
 fn packed_by_entry(edition: Edition, source: &[u8], entries: &[u8; 256], at: usize) -> u64
     requires { ⌜ Entries (now entries) × (length (now source) < packing) × Bounded (now source) at ⌝ }
     ensures { λ r. ⌜ r ≡ packed at (lexeme (editionOf edition) (drop at (now (source .entry)))) ⌝ }
 {
     let entry = entries::entry_of(entries, source[at]);
-    if LETTER <= entry {
+    if entries::LETTER <= entry {
         return packed_word(source, entries, at, entry);
     }
-    if entry < OTHER {
+    if entry < entries::LONGER {
         return pack(entry as u32, at + 1);
     }
     packed_other(edition, source, entries, at, entry)
 }
 
-// The lexeme at `at`; `bounded` says that every run from there on ends before the source does.
+// The lexeme at `at`; `bounded` says that a word which stands there ends before the source does.
 pub(crate) fn packed_lexeme(
     edition: Edition,
     source: &[u8],

@@ -59,7 +59,7 @@ fn put_where_room(table: &mut [u32], room: usize, row: usize, token: TokenRow)
     }
 }
 
-// The pass, lexeme by lexeme. Up to `stop` every run ends before the source does.
+// The pass, lexeme by lexeme. A word that stands before or at `stop` ends before the source does.
 fn scan_lexemes(
     edition: Edition,
     source: &[u8],
@@ -94,7 +94,7 @@ fn scan_lexemes(
     }
 }
 
-// The place of the last byte over which no run goes on, or 0.
+// The place of the last byte over which no word goes on, or 0.
 fn last_stop(source: &[u8], entries: &[u8; 256]) -> usize
     requires { ⌜ Entries (now entries) ⌝ }
     ensures { λ r. ⌜ Stop (now (source .entry)) r ⌝ }
@@ -102,7 +102,7 @@ fn last_stop(source: &[u8], entries: &[u8; 256]) -> usize
     let mut i = source.len();
     while 0 < i {
         i -= 1;
-        if entries::entry_of(entries, source[i]) < entries::SPACE {
+        if entries::entry_of(entries, source[i]) < entries::DIGIT {
             return i;
         }
     }

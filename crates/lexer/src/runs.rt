@@ -126,7 +126,8 @@ const BLOCK: usize = 32;
 // so that the compiler can compare them at once.
 fn block_passes(source: &[u8], at: usize, stop: u8) -> bool
     requires { ⌜ at + block ≤ length (now source) ⌝ }
-    ensures { λ r. ⌜ (r ≡ true → Goes (isNot stop) (now (source .entry)) at (at + block)) × (r ≡ false → at + run (isNot stop) (drop at (now (source .entry))) < length (now (source .entry))) ⌝ }
+    ensures { λ r. ⌜ (r ≡ true → Goes (isNot stop) (now (source .entry)) at (at + block)) ⌝ }
+    ensures { λ r. ⌜ (r ≡ false → at + run (isNot stop) (drop at (now (source .entry))) < length (now (source .entry))) ⌝ }
 {
     let mut found = false;
     let mut k = 0;
