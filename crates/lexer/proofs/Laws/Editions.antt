@@ -54,7 +54,7 @@ fits11 = record {
   longest-three = refl;
   one = λ a. refl;
   two =
-    λ a b.
+      λ a b.
       let are : ℕ → ℕ → Bool = λ c d. same (c ∷ d ∷ []) (a ∷ b ∷ []) in
       two11
       (are (code "=") (code "="))
