@@ -211,10 +211,11 @@ module _ (s : List ℕ) (at : ℕ) (inside : at < length s) where
     unfolding comment beginsEither and or
     comment-lost h = rw (slashed, h)
 
+    -- it is a mark by itself in every edition
     pub slash-mark : (e : Edition) → FitEdition e → mark e (drop at s) ≡ Token slash 1
     slash-mark e fit = rw slashed (mark-slash e fit _)
 
-  module _ (e : Edition) (here : getD s at 0 ≡ code "-") where
+  module _ (here : getD s at 0 ≡ code "-") (e : Edition) where
     minused : drop at s ≡ code "-" ∷ drop (at + 1) s
     minused = rw here at (front-one s at inside)
 
@@ -228,5 +229,6 @@ module _ (s : List ℕ) (at : ℕ) (inside : at < length s) where
     unfolding number beginsEither isDigit between and or
     minus-alone plain = rw (minused, plain) (no-digits (code "-") (drop (at + 1) s) refl)
 
+    -- it is a mark by itself in every edition
     pub minus-mark : FitEdition e → mark e (drop at s) ≡ Token minus 1
     minus-mark fit = rw minused (mark-minus e fit _)

@@ -49,6 +49,11 @@ no-arrow-two : (b : ℕ) → kind17 (0xE2 ∷ b ∷ []) ≡ 0
 unfolding kindOf same spelledMarks and
 no-arrow-two b = simp and-false
 
+-- no mark of two bytes ends with a byte 0
+pub no-zero-second : (a : ℕ) → kind17 (a ∷ 0 ∷ []) ≡ 0
+unfolding kindOf same spelledMarks and
+no-zero-second a = refl
+
 -- the second byte from a place on
 second : (s : List ℕ) (at : ℕ) → getD (drop (at + 1) s) 0 0 ≡ getD s (at + 1) 0
 second s at = rw (getD-drop, add-zero)
@@ -83,7 +88,7 @@ module _ (e : Edition) (fit : FitEdition e) where
   -- where the first byte is not that of `→`, two bytes decide, and a 0 stands for one that is not there
   two-enough : (a : ℕ) (t : List ℕ) → (a ≡ 0xE2 → ⊥) → mark e (a ∷ t) ≡ mark e (a ∷ getD t 0 0 ∷ [])
   unfolding kindOf same spelledMarks and
-  two-enough a [] h = one-alone a ∙ sym (two-lost a 0 (fit .two a 0 refl))
+  two-enough a [] h = one-alone a ∙ sym (two-lost a 0 (fit .two a 0 (no-zero-second a)))
   two-enough a (b ∷ []) h = refl
   two-enough a (b ∷ c ∷ t) h = three a b c t ∙ mark-lost _ _ _ (rw (ne-eqb _ _ h, and-false))
 

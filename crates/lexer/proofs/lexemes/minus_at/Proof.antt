@@ -72,7 +72,7 @@ returns c =
     let unsigned = c .before .unsigned in
     let signed = sym (is-signed .ensures) ∙ if1 .taken in
     rw (
-      minus-number (args .source .now) (args .at) (start .pre .0) e (start .pre .1) signed,
+      minus-number (args .source .now) (args .at) (start .pre .0) (start .pre .1) e signed,
       ← read at-unsigned-at,
       unsigned .given .1,
       add-one,
@@ -90,11 +90,11 @@ returns-2 c =
     let s = args .source .now in
     let signed = sym (is-signed .ensures) ∙ if1 .taken in
     rw (
-      minus-number s (args .at) (start .pre .0) e (start .pre .1) signed,
+      minus-number s (args .at) (start .pre .0) (start .pre .1) e signed,
       ← read at-unsigned-at,
       no-minus _ (c .match .keys2),
     )
-    (sym (minus-mark s (args .at) (start .pre .0) e (start .pre .1) (fits (args .edition))))
+    (sym (minus-mark s (args .at) (start .pre .0) (start .pre .1) e (fits (args .edition))))
 
 returns-3 : tie.Need-returns-3
 unfolding orElse
@@ -105,8 +105,8 @@ returns-3 c =
     let is-signed = c .before .is-signed in
     let s = args .source .now in
     let plain = sym (is-signed .ensures) ∙ c .if1 .left in
-    rw (minus-alone s (args .at) (start .pre .0) e (start .pre .1) plain)
-    (sym (minus-mark s (args .at) (start .pre .0) e (start .pre .1) (fits (args .edition))))
+    rw (minus-alone s (args .at) (start .pre .0) (start .pre .1) e plain)
+    (sym (minus-mark s (args .at) (start .pre .0) (start .pre .1) e (fits (args .edition))))
 
 pub minus-at-spec : {M : Type 1} → statement M
 minus-at-spec =
