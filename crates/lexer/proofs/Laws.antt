@@ -12,6 +12,7 @@ pub mod Marks
 pub mod Lexemes
 pub mod Entries
 pub mod Packed
+pub mod PackedMarks
 pub mod Scans
 pub mod Gaps
 pub mod Places

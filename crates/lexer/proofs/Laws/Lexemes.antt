@@ -3,20 +3,20 @@ use Prim.Native.Char.{code}
 use Prim.Native.Nat.{ℕ, zero, suc, _+_, _<_, _≤_}
 use mathlib.Core.Path.{_≡_, refl, sym, _∙_}
 use mathlib.Core.Bool.{Bool, true, false}
-use mathlib.Core.List.{List, [], _∷_}
+use mathlib.Core.List.{List, _∷_}
 use native.Mathlib.Omega.{arith}
 use native.Mathlib.Nat.{add-assoc}
 use lib.Dec.{eqb, ltb}
 use borrow.Author.Tests.{ne-eqb, lt-ltb, le-ltb}
 use lib.ListN.{length, drop, getD, length-drop}
 use lib.Seq.{drop-drop}
-use Rattle.lexer.specs.Tests.{and, or, pick}
+use Rattle.lexer.specs.Tests.{and, or, between, pick}
 use Rattle.lexer.specs.internal.Kinds.{ident, string, minus, slash}
 use Rattle.lexer.specs.Bytes.{isSpace, isDigit, isLetter, isInLine, isInString, run, beginsEither}
-use Rattle.lexer.specs.Spellings.{same, kindOf, longest, spelledMarks}
-use Rattle.lexer.specs.Editions.{Edition, edition17}
+use Rattle.lexer.specs.Spellings.{same, kindOf, spelledMarks}
+use Rattle.lexer.specs.Editions.{Edition}
 use Rattle.lexer.specs.Lexemes.{skippedSpaces, spaces, comment, wordOf, word, numberOf, unsignedNumber, withMinus, number, text}
-use Rattle.lexer.specs.Lexemes.{markOf, markUpTo, mark, orElse, lexeme}
+use Rattle.lexer.specs.Lexemes.{markOf, mark, orElse, lexeme}
 use Rattle.lexer.specs.internal.Leaves.{byteClass}
 use Rattle.lexer.specs.declared.Lexeme.{Lexeme}
 use Rattle.lexer.specs.declared.Lexeme.the-variants.{Skipped, Token, BadByte, OpenString}
@@ -25,6 +25,8 @@ use Rattle.lexer.proofs.Laws.Classes.{class-digit, class-letter, class-
 use Rattle.lexer.proofs.Laws.Fronts.{front-one}
 use Rattle.lexer.proofs.Laws.Runs.{run-pass, run-stop}
 use Rattle.lexer.proofs.Laws.Words.{word-letter, word-none}
+use Rattle.lexer.proofs.Laws.Editions.{FitEdition}
+use Rattle.lexer.proofs.Laws.Marks.{one-enough}
 
 -- where a rule fits, no later one is asked
 pub spaces-first : (n : ℕ) (other : Lexeme) → 0 < n → orElse (skippedSpaces n) other ≡ skippedSpaces n
@@ -154,17 +156,14 @@ module _ (e : Edition) (b : ℕ) (t : List ℕ) (byte : b < 256) where
       )
 
 -- `-` and `/` begin no longer mark
-pub mark-minus : (t : List ℕ) → mark edition17 (code "-" ∷ t) ≡ Token minus 1
-unfolding and mark markUpTo markOf kindOf same spelledMarks longest
-mark-minus [] = refl
-mark-minus (b ∷ []) = simp and-false
-mark-minus (b ∷ c ∷ t) = simp and-false
+module _ (e : Edition) (fit : FitEdition e) (t : List ℕ) where
+  pub mark-minus : mark e (code "-" ∷ t) ≡ Token minus 1
+  unfolding and markOf kindOf same spelledMarks
+  mark-minus = one-enough e fit (code "-") t (λ h. omega arith) (λ b. simp and-false)
 
-pub mark-slash : (t : List ℕ) → mark edition17 (code "/" ∷ t) ≡ Token slash 1
-unfolding and mark markUpTo markOf kindOf same spelledMarks longest
-mark-slash [] = refl
-mark-slash (b ∷ []) = simp and-false
-mark-slash (b ∷ c ∷ t) = simp and-false
+  pub mark-slash : mark e (code "/" ∷ t) ≡ Token slash 1
+  unfolding and markOf kindOf same spelledMarks
+  mark-slash = one-enough e fit (code "/") t (λ h. omega arith) (λ b. simp and-false)
 
 -- what the rules give where their first byte stands
 spaces-of : (n : ℕ) → 0 < n → skippedSpaces n ≡ Skipped n
@@ -212,16 +211,24 @@ module _ (s : List ℕ) (at : ℕ) (inside : at < length s) where
     unfolding comment beginsEither and or
     comment-lost h = rw (slashed, h)
 
-    pub slash-mark : mark edition17 (drop at s) ≡ Token slash 1
-    slash-mark = rw slashed (mark-slash _)
+    -- it is a mark by itself in every edition
+    pub slash-mark : (e : Edition) → FitEdition e → mark e (drop at s) ≡ Token slash 1
+    slash-mark e fit = rw slashed (mark-slash e fit _)
 
-  module _ (here : getD s at 0 ≡ code "-") where
+  module _ (here : getD s at 0 ≡ code "-") (e : Edition) where
     minused : drop at s ≡ code "-" ∷ drop (at + 1) s
     minused = rw here at (front-one s at inside)
 
-    pub minus-number : number edition17 (drop at s) ≡ withMinus (unsignedNumber (drop (at + 1) s))
+    -- a number takes the minus before it where the edition says so
+    pub minus-number : e .signed ≡ true → number e (drop at s) ≡ withMinus (unsignedNumber (drop (at + 1) s))
     unfolding number beginsEither and or
-    minus-number = rw minused
+    minus-number signed = rw (minused, signed)
 
-    pub minus-mark : mark edition17 (drop at s) ≡ Token minus 1
-    minus-mark = rw minused (mark-minus _)
+    -- .. and else none begins with one
+    pub minus-alone : e .signed ≡ false → number e (drop at s) ≡ BadByte
+    unfolding number beginsEither isDigit between and or
+    minus-alone plain = rw (minused, plain) (no-digits (code "-") (drop (at + 1) s) refl)
+
+    -- it is a mark by itself in every edition
+    pub minus-mark : FitEdition e → mark e (drop at s) ≡ Token minus 1
+    minus-mark fit = rw minused (mark-minus e fit _)

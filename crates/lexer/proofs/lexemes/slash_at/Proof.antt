@@ -4,7 +4,7 @@ use mathlib.Core.Path.{_∙_, sym, ap}
 use Rattle.lexer.specs.Lexemes.{orElse}
 use Rattle.lexer.specs.declared.Lexeme.{Lexeme}
 use Rattle.lexer.proofs.Laws.Numbers.{begins-inside}
-use Rattle.lexer.proofs.Laws.Lexemes.{comment-found, comment-lost, slash-mark}
+use Rattle.lexer.proofs.Laws.Lexemes.{comment-found, comment-lost}
 use Rattle.lexer.proofs.lexemes.slash_at.Statement.{statement}
 use Rattle.lexer.proofs.lexemes.slash_at.Tie as tie
 use native.Mathlib.Omega.{arith}
@@ -45,7 +45,6 @@ returns-2 c =
     let pre = c .before .before .before .pre in
     let begins-either = c .before .begins-either in
     rw (comment-lost (args .source .now) (args .at) (pre .0) (pre .1) (sym (begins-either .ensures) ∙ c .if1 .left))
-    (sym (slash-mark (args .source .now) (args .at) (pre .0) (pre .1)))
 
 pub slash-at-spec : {M : Type 1} → statement M
 slash-at-spec =

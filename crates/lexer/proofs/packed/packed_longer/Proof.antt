@@ -1,52 +1,67 @@
+-- `lexer::packed::packed_longer` meets its contract: two bytes decide, and where they are no mark the first is one. Assumes nothing.
+use mathlib.Core.Path.{_∙_, sym}
+use native.Mathlib.Omega.{arith}
 use borrow.Author.Needs.{needs}
+use Rattle.lexer.proofs.Laws.Editions.{fits}
+use Rattle.lexer.proofs.Laws.PackedMarks.{pair-inside, packed-one, packed-two}
 use Rattle.lexer.proofs.packed.packed_longer.Statement.{statement}
 use Rattle.lexer.proofs.packed.packed_longer.Tie as tie
-use Rattle.lexer.proofs.packed.packed_longer.Reads as reads
-use Rattle.lexer.proofs.packed.packed_longer.Lts as lts
-use Rattle.lexer.proofs.bytes.byte_at.Reads as byte-at-reads
-use Rattle.lexer.proofs.bytes.mark_kind.Reads as mark-kind-reads
-use Rattle.lexer.proofs.marks.pair_kind.Reads as pair-kind-reads
-use Rattle.lexer.proofs.packed.pack.Reads as pack-reads
 
--- src/packed.rt:168:17
 shared-slice-read-first : tie.Need-shared-slice-read-first
 shared-slice-read-first c = search needs
 
--- src/packed.rt:169:16
 add-next : tie.Need-add-next
 add-next c = search needs
 
--- src/packed.rt:170:49
 byte-at-requires : tie.Need-byte-at-requires
 byte-at-requires c κs = search needs
 
--- src/packed.rt:170:9
 pair-kind-requires : tie.Need-pair-kind-requires
 pair-kind-requires c κs = search needs
 
--- src/packed.rt:172:21
 mark-kind-requires : tie.Need-mark-kind-requires
 mark-kind-requires c κs = search needs
 
--- src/packed.rt:172:9
 pack-requires : tie.Need-pack-requires
 pack-requires c κs = search needs
 
--- src/packed.rt:172:9
 returns : tie.Need-returns
-returns c = ?
+returns c =
+    let start = c .before .before .before .before .before .before .before in
+    let args = start .args in
+    let known = c .before .before .before .before .before .shared-slice-known2 in
+    let byte-at = c .before .before .before .before .byte-at in
+    let pair-kind = c .before .before .before .pair-kind in
+    let if1 = c .before .before .if1 in
+    let mark-kind = c .before .mark-kind in
+    let lost = rw (byte-at .ensures) at (sym (pair-kind .ensures) ∙ if1 .taken) in
+    rw (mark-kind .ensures) at (c .pack .ensures)
+    ∙ packed-one _ (fits (args .edition)) (args .source .now) (args .at) (start .pre .0) (known .given (args .at) .fits) (start .pre .2) lost
 
--- src/packed.rt:174:16
 add-pack : tie.Need-add-pack
 add-pack c = search needs
 
--- src/packed.rt:174:5
 pack-requires-2 : tie.Need-pack-requires-2
-pack-requires-2 c κs = ?
+pack-requires-2 c κs =
+    let start = c .before .before .before .before .before in
+    let args = start .args in
+    let byte-at = c .before .before .byte-at in
+    let pair-kind = c .before .pair-kind in
+    let kind = rw (byte-at .ensures) at (pair-kind .ensures) in
+    let next = pair-inside _ (fits (args .edition)) (args .source .now) (args .at) (λ q. c .if1 .left (kind ∙ q)) in
+    omega arith
 
--- src/packed.rt:164:1
 returns-2 : tie.Need-returns-2
-returns-2 c = ?
+returns-2 c =
+    let start = c .before .before .before .before .before .before in
+    let args = start .args in
+    let known = c .before .before .before .before .shared-slice-known2 in
+    let byte-at = c .before .before .before .byte-at in
+    let pair-kind = c .before .before .pair-kind in
+    let if1 = c .before .if1 in
+    let kind = rw (byte-at .ensures) at (pair-kind .ensures) in
+    let found = packed-two _ (fits (args .edition)) (args .source .now) (args .at) (start .pre .0) (known .given (args .at) .fits) (start .pre .2) in
+    rw kind at (c .pack2 .ensures) ∙ found (λ q. if1 .left (kind ∙ q))
 
 pub packed-longer-spec : {M : Type 1} → statement M
 packed-longer-spec =

@@ -1,42 +1,51 @@
+-- `lexer::packed::packed_slash` meets its contract. Assumes nothing.
+use mathlib.Core.Path.{_∙_, sym}
+use native.Mathlib.Omega.{arith}
+use borrow.Author.Needs.{needs}
+use Rattle.lexer.specs.Lexemes.{orElse}
+use Rattle.lexer.specs.internal.Packed.{packed}
+use Rattle.lexer.proofs.Laws.Lexemes.{comment-found, comment-lost}
 use Rattle.lexer.proofs.packed.packed_slash.Statement.{statement}
 use Rattle.lexer.proofs.packed.packed_slash.Tie as tie
-use Rattle.lexer.proofs.packed.packed_slash.Reads as reads
-use Rattle.lexer.proofs.packed.packed_slash.Lts as lts
-use Rattle.lexer.proofs.bytes.begins_either.Reads as begins-either-reads
-use Rattle.lexer.proofs.packed.pack.Reads as pack-reads
-use Rattle.lexer.proofs.runs.run_end.Reads as run-end-reads
 
--- src/packed.rt:145:37
 add-begins-either : tie.Need-add-begins-either
-add-begins-either c = ?
+add-begins-either c = search needs
 
--- src/packed.rt:145:8
 begins-either-requires : tie.Need-begins-either-requires
-begins-either-requires c κs = ?
+begins-either-requires c κs = search needs
 
--- src/packed.rt:146:38
 add-run-end : tie.Need-add-run-end
-add-run-end c = ?
+add-run-end c = search needs
 
--- src/packed.rt:146:16
 run-end-requires : tie.Need-run-end-requires
-run-end-requires c κs = ?
+run-end-requires c κs = search needs
 
--- src/packed.rt:146:9
 returns : tie.Need-returns
-returns c = ?
+unfolding packed orElse
+returns c =
+    let start = c .before .before .before .before in
+    let args = start .args in
+    let begins-either = c .before .before .begins-either in
+    let if1 = c .before .if1 in
+    let run-end = c .run-end .ensures in
+    rw (comment-found (args .source .now) (args .at) (start .pre .0) (start .pre .2) (sym (begins-either .ensures) ∙ if1 .taken))
+    (omega arith)
 
--- src/packed.rt:148:24
 add-pack : tie.Need-add-pack
-add-pack c = ?
+add-pack c = search needs
 
--- src/packed.rt:148:5
 pack-requires : tie.Need-pack-requires
-pack-requires c κs = ?
+pack-requires c κs = search needs
 
--- src/packed.rt:141:1
 returns-2 : tie.Need-returns-2
-returns-2 c = ?
+unfolding packed orElse
+returns-2 c =
+    let start = c .before .before .before .before in
+    let args = start .args in
+    let begins-either = c .before .before .begins-either in
+    let if1 = c .before .if1 in
+    rw (comment-lost (args .source .now) (args .at) (start .pre .0) (start .pre .2) (sym (begins-either .ensures) ∙ if1 .left))
+    (c .pack .ensures)
 
 pub packed-slash-spec : {M : Type 1} → statement M
 packed-slash-spec =
