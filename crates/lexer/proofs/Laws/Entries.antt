@@ -1,1 +1,309 @@
--- What the table of bytes tells of a byte. Assumes nothing.
+-- What the entry of a byte tells of the byte, each by one computed test over all bytes; which lexeme begins with it; and how far the
+-- runs go that are told by entries. Assumes nothing.
+use Prim.Native.Char.{code}
+use Prim.Native.Nat.{ℕ, zero, suc, _+_, _-_, _<_, _≤_, zero-le, suc-le-suc}
+use mathlib.Core.Path.{_≡_, refl, sym, _∙_}
+use mathlib.Core.Bool.{Bool, true, false, not}
+use mathlib.Core.List.{List, [], _∷_}
+use native.Mathlib.Omega.{arith}
+use lib.Dec.{T, eqb, leb, ltb}
+use lib.ListN.{length, drop, getD}
+use lib.Seq.{getD-drop}
+use borrow.Author.Tests.{le-leb, lt-leb, lt-ltb, eqb-true, eq-eqb, ne-eqb, leb-true, ltb-true}
+use Rattle.lexer.specs.Tests.{and, or, pick, between, among}
+use Rattle.lexer.specs.Bytes.{isDigit, isLetter, isSpace, isWordByte, run}
+use Rattle.lexer.specs.Editions.{Edition, edition17}
+use Rattle.lexer.specs.Lexemes.{spaces, comment, word, unsignedNumber, number, text, markOf, markUpTo, mark, orElse, lexeme}
+use Rattle.lexer.specs.declared.Lexeme.{Lexeme}
+use Rattle.lexer.specs.declared.Lexeme.the-variants.{Token}
+use Rattle.lexer.specs.internal.Kinds.{slash}
+use Rattle.lexer.specs.Spellings.{Spelling, same, kindOf, reserved, spelledMarks}
+use Rattle.lexer.specs.Words.{wordLength, orIdent, wordKind}
+use Rattle.lexer.specs.Numbers.{digits}
+use Rattle.lexer.specs.internal.Leaves.{byteClass}
+use Rattle.lexer.specs.internal.Entries.{otherEntry, slashEntry, backtickEntry, longerEntry, spaceEntry, minusEntry, digitEntry}
+use Rattle.lexer.specs.internal.Entries.{letterEntry, lastEntry, markEntry, byteEntry, hasEntry, Bounded}
+use Rattle.lexer.proofs.Laws.Tests.{and-false, and-left, and-right, not-true, between-range}
+use Rattle.lexer.proofs.Laws.Editions.{kind17, FitEdition}
+use Rattle.lexer.proofs.Laws.Computed.{all, all-at}
+use Rattle.lexer.proofs.Laws.Classes.{agree, agreed, class-minus, class-slash, class-backtick}
+use Rattle.lexer.proofs.Laws.Fronts.{front-one}
+use Rattle.lexer.proofs.Laws.Lexemes.{lexeme-letter, lexeme-space, lexeme-digit, lexeme-minus, lexeme-slash, lexeme-backtick}
+use Rattle.lexer.proofs.Laws.Lexemes.{lexeme-mark, string-first}
+use Rattle.lexer.proofs.Laws.Runs.{run-nil, run-pass, run-stop, run-goes-on}
+use Rattle.lexer.proofs.Laws.Words.{word-letter}
+
+-- an entry that is looked up, between two entries or not
+module _ (low high b entry : ℕ) (looked : entry ≡ byteEntry b) where
+  pub entry-within : low ≤ entry → entry ≤ high → hasEntry low high b ≡ true
+  unfolding between and
+  entry-within above below = rw (← looked, le-leb low entry above, le-leb entry high below)
+
+  pub entry-below : entry < low → hasEntry low high b ≡ false
+  unfolding between and
+  entry-below below = rw (← looked, lt-leb low entry below)
+
+  pub entry-above : high < entry → hasEntry low high b ≡ false
+  unfolding between
+  entry-above above = rw (← looked, lt-leb entry high above, and-false)
+
+-- `byteEntry`, opened down to its parts, with the tests that it is held against: whoever computes entries unfolds this one name
+unfoldable opened : ℕ → ℕ
+unfolding and or between among agree isDigit isLetter isSpace isWordByte same kindOf reserved spelledMarks orIdent wordKind
+    byteClass markEntry byteEntry
+opened b = byteEntry b
+
+-- a test that passes at every byte
+passes : (f : ℕ → Bool) → T (all (λ b. agree (f b) true) 256) → (b : ℕ) → b < 256 → f b ≡ true
+passes f t b h = agreed (f b) true (all-at (λ b. agree (f b) true) 256 t b h)
+
+-- some entries against one test
+entry-test : (low high : ℕ) (f : ℕ → Bool) → T (all (λ b. agree (hasEntry low high b) (f b)) 256)
+    → (b : ℕ) → b < 256 → hasEntry low high b ≡ f b
+entry-test low high f t b h = agreed _ _ (all-at (λ b. agree (hasEntry low high b) (f b)) 256 t b h)
+
+pub entry-space : (b : ℕ) → b < 256 → hasEntry spaceEntry spaceEntry b ≡ isSpace b
+unfolding opened
+entry-space = entry-test spaceEntry spaceEntry isSpace tt
+
+pub entry-digit : (b : ℕ) → b < 256 → hasEntry digitEntry digitEntry b ≡ isDigit b
+unfolding opened
+entry-digit = entry-test digitEntry digitEntry isDigit tt
+
+pub entry-letter : (b : ℕ) → b < 256 → hasEntry letterEntry lastEntry b ≡ isLetter b
+unfolding opened
+entry-letter = entry-test letterEntry lastEntry isLetter tt
+
+pub entry-word : (b : ℕ) → b < 256 → hasEntry digitEntry lastEntry b ≡ isWordByte b
+unfolding opened
+entry-word = entry-test digitEntry lastEntry isWordByte tt
+
+-- no entry is higher than the last
+pub entry-last : (b : ℕ) → b < 256 → byteEntry b ≤ lastEntry
+unfolding opened
+entry-last b h = leb-true _ _ (passes (λ b. leb (byteEntry b) lastEntry) tt b h)
+
+-- the class of a byte by its entry
+unfoldable entryClass : ℕ → ℕ
+entryClass n =
+    pick (leb letterEntry n) 1
+    (pick (ltb n otherEntry) 6
+    (pick (eqb n digitEntry) 0
+    (pick (eqb n minusEntry) 3
+    (pick (eqb n spaceEntry) 2
+    (pick (eqb n backtickEntry) 5
+    (pick (eqb n slashEntry) 4 6))))))
+
+entry-class : (b : ℕ) → b < 256 → byteClass b ≡ entryClass (byteEntry b)
+unfolding opened entryClass
+entry-class b h = eqb-true _ _ (passes (λ b. eqb (byteClass b) (entryClass (byteEntry b))) tt b h)
+
+-- what a byte is, by its entry
+module _ (b : ℕ) (byte : b < 256) where
+  class-told : (n : ℕ) → byteEntry b ≡ n → byteClass b ≡ entryClass n
+  class-told n h = rw h at (entry-class b byte)
+
+  pub letter-there : letterEntry ≤ byteEntry b → isLetter b ≡ true
+  letter-there h = sym (entry-letter b byte) ∙ entry-within letterEntry lastEntry b _ refl h (entry-last b byte)
+
+  pub letter-kind : letterEntry ≤ byteEntry b → wordKind (b ∷ []) ≡ byteEntry b - letterEntry
+  unfolding byteEntry
+  letter-kind h =
+      let e : byteEntry b ≡ letterEntry + wordKind (b ∷ []) = rw (letter-there h) in
+      omega arith
+
+  pub space-there : byteEntry b ≡ spaceEntry → isSpace b ≡ true
+  unfolding between
+  space-there h = sym (entry-space b byte) ∙ rw h
+
+  pub digit-there : byteEntry b ≡ digitEntry → isDigit b ≡ true
+  unfolding between
+  digit-there h = sym (entry-digit b byte) ∙ rw h
+
+  -- .. and the other way round
+  pub digit-told : isDigit b ≡ true → byteEntry b ≡ digitEntry
+  digit-told h =
+      let range = between-range digitEntry digitEntry (byteEntry b) (entry-digit b byte ∙ h) in
+      omega arith
+
+  pub minus-there : byteEntry b ≡ minusEntry → b ≡ code "-"
+  unfolding entryClass
+  minus-there h = eqb-true _ _ (sym (class-minus b byte) ∙ eq-eqb _ _ (class-told minusEntry h))
+
+  pub slash-there : byteEntry b ≡ slashEntry → b ≡ code "/"
+  unfolding entryClass
+  slash-there h = eqb-true _ _ (sym (class-slash b byte) ∙ eq-eqb _ _ (class-told slashEntry h))
+
+  pub backtick-there : byteEntry b ≡ backtickEntry → b ≡ code "`"
+  unfolding entryClass
+  backtick-there h = eqb-true _ _ (sym (class-backtick b byte) ∙ eq-eqb _ _ (class-told backtickEntry h))
+
+-- whether no spelling of two bytes or more begins with a byte
+unfoldable pub beginsNot : ℕ → List ℕ → Bool
+beginsNot b [] = true
+beginsNot b (a ∷ []) = true
+beginsNot b (a ∷ c ∷ t) = not (eqb b a)
+
+unfoldable pub beginsNone : ℕ → List Spelling → Bool
+beginsNone b [] = true
+beginsNone b (m ∷ ms) = and (beginsNot b (m .text)) (beginsNone b ms)
+
+module _ (b c : ℕ) (t : List ℕ) where
+  other-spelling : (w : List ℕ) → beginsNot b w ≡ true → same w (b ∷ c ∷ t) ≡ false
+  unfolding beginsNot same and
+  other-spelling [] h = refl
+  other-spelling (a ∷ []) h = refl
+  other-spelling (a ∷ d ∷ w) h = rw (not-true (eqb b a) h) (and-false (same (d ∷ w) (c ∷ t)))
+
+  none-longer : (ms : List Spelling) → beginsNone b ms ≡ true → kindOf ms (b ∷ c ∷ t) ≡ 0
+  unfolding beginsNone kindOf
+  none-longer [] h = refl
+  none-longer (m ∷ ms) h = rw (other-spelling (m .text) (and-left _ _ h)) (none-longer ms (and-right _ _ h))
+
+-- the mark that a byte is, where no longer one begins with it
+module _ (e : Edition) (fit : FitEdition e) (b : ℕ) (alone : beginsNone b (edition17 .marks) ≡ true) where
+  pub mark-alone : (k : ℕ) → kind17 (b ∷ []) ≡ k → (k ≡ 0 → ⊥) → (t : List ℕ) → mark e (b ∷ t) ≡ Token k 1
+  unfolding mark markUpTo markOf
+  mark-alone zero h some t = absurd (some refl)
+  mark-alone (suc k) h some [] = rw (fit .longest-three, fit .one b, h)
+  mark-alone (suc k) h some (c ∷ []) =
+      rw (fit .longest-three, fit .two b c (none-longer b c [] (edition17 .marks) alone), fit .one b, h)
+  mark-alone (suc k) h some (c ∷ d ∷ t) =
+      let three = fit .three b c d ∙ none-longer b c (d ∷ []) (edition17 .marks) alone in
+      let two = fit .two b c (none-longer b c [] (edition17 .marks) alone) in
+      rw (fit .longest-three, three, two, fit .one b, h)
+
+-- a byte with an entry below `otherEntry`
+record MarkTold (b : ℕ) : Type 0 where
+  kind : kind17 (b ∷ []) ≡ byteEntry b
+  some : byteEntry b ≡ 0 → ⊥
+  alone : beginsNone b (edition17 .marks) ≡ true
+
+mark-tests : (b : ℕ) → b < 256 → byteEntry b < otherEntry
+    → and (and (eqb (kind17 (b ∷ [])) (byteEntry b)) (ltb 0 (byteEntry b))) (beginsNone b (edition17 .marks)) ≡ true
+unfolding opened beginsNot beginsNone
+mark-tests b byte below =
+    let is : ℕ → Bool = λ b. and (eqb (kind17 (b ∷ [])) (byteEntry b)) (ltb 0 (byteEntry b)) in
+    let test : ℕ → Bool = λ b. pick (ltb (byteEntry b) otherEntry) (and (is b) (beginsNone b (edition17 .marks))) true in
+    rw (lt-ltb (byteEntry b) otherEntry below) at (passes test tt b byte)
+
+mark-told : (b : ℕ) → b < 256 → byteEntry b < otherEntry → MarkTold b
+mark-told b byte below =
+    let told = mark-tests b byte below in
+    let is = and-left _ _ told in
+    let some = ltb-true 0 (byteEntry b) (and-right _ _ is) in
+    record { kind = eqb-true _ _ (and-left _ _ is); some = omega arith; alone = and-right _ _ told }
+
+-- the lexeme at a place, by the entry of the byte there
+module _ (e : Edition) (s : List ℕ) (at : ℕ) (inside : at < length s) (byte : getD s at 0 < 256) where
+  here : (f : List ℕ → Lexeme) → lexeme e (getD s at 0 ∷ drop (at + 1) s) ≡ f (getD s at 0 ∷ drop (at + 1) s)
+      → lexeme e (drop at s) ≡ f (drop at s)
+  here f h = rw (front-one s at inside) h
+
+  marked : (n : ℕ) → byteEntry (getD s at 0) ≡ n → entryClass n ≡ 6 → lexeme e (drop at s) ≡ mark e (drop at s)
+  marked n h class =
+      let is = class-told _ byte n h ∙ class in
+      let not : (k : ℕ) → (k ≡ 6 → ⊥) → byteClass (getD s at 0) ≡ k → ⊥ = λ k other q. other (sym q ∙ is) in
+      here (mark e) (lexeme-mark e _ _ byte (not 0 (λ q. omega arith)) (not 1 (λ q. omega arith)) (not 2 (λ q. omega arith))
+      (not 3 (λ q. omega arith)) (not 4 (λ q. omega arith)) (not 5 (λ q. omega arith)))
+
+  pub letter-lexeme : letterEntry ≤ byteEntry (getD s at 0) → lexeme e (drop at s) ≡ word (drop at s)
+  unfolding entryClass
+  letter-lexeme h = here word (lexeme-letter e _ _ byte (entry-class _ byte ∙ rw (le-leb letterEntry _ h)))
+
+  pub space-lexeme : byteEntry (getD s at 0) ≡ spaceEntry → lexeme e (drop at s) ≡ spaces (drop at s)
+  unfolding entryClass
+  space-lexeme h = here spaces (lexeme-space e _ _ byte (class-told _ byte spaceEntry h))
+
+  pub digit-lexeme : byteEntry (getD s at 0) ≡ digitEntry → lexeme e (drop at s) ≡ unsignedNumber (drop at s)
+  unfolding entryClass
+  digit-lexeme h = here unsignedNumber (lexeme-digit e _ _ byte (class-told _ byte digitEntry h))
+
+  pub minus-lexeme : byteEntry (getD s at 0) ≡ minusEntry → lexeme e (drop at s) ≡ orElse (number e (drop at s)) (mark e (drop at s))
+  unfolding entryClass
+  minus-lexeme h = here (λ s. orElse (number e s) (mark e s)) (lexeme-minus e _ _ byte (class-told _ byte minusEntry h))
+
+  pub backtick-lexeme : byteEntry (getD s at 0) ≡ backtickEntry → lexeme e (drop at s) ≡ text (drop at s)
+  unfolding entryClass
+  backtick-lexeme h =
+      here (λ s. orElse (text s) (mark e s)) (lexeme-backtick e _ _ byte (class-told _ byte backtickEntry h))
+      ∙ string-first s at inside (backtick-there _ byte h) _
+
+  pub longer-lexeme : byteEntry (getD s at 0) ≡ longerEntry → lexeme e (drop at s) ≡ mark e (drop at s)
+  unfolding entryClass
+  longer-lexeme h = marked longerEntry h refl
+
+  pub other-lexeme : byteEntry (getD s at 0) ≡ otherEntry → lexeme e (drop at s) ≡ mark e (drop at s)
+  unfolding entryClass
+  other-lexeme h = marked otherEntry h refl
+
+  -- .. where the edition is fit
+  module _ (fit : FitEdition e) where
+    pub slash-lexeme : byteEntry (getD s at 0) ≡ slashEntry → lexeme e (drop at s) ≡ orElse (comment (drop at s)) (Token slash 1)
+    unfolding opened entryClass beginsNot beginsNone
+    slash-lexeme h =
+        let is = slash-there _ byte h in
+        let found = mark-alone e fit (code "/") refl slash refl (λ q. omega arith) (drop (at + 1) s) in
+        here (λ s. orElse (comment s) (mark e s)) (lexeme-slash e _ _ byte (class-told _ byte slashEntry h))
+        ∙ rw (front-one s at inside, is, found)
+
+    pub alone-lexeme : byteEntry (getD s at 0) < otherEntry → lexeme e (drop at s) ≡ Token (byteEntry (getD s at 0)) 1
+    unfolding entryClass
+    alone-lexeme h =
+        let n = byteEntry (getD s at 0) in
+        let told = mark-told _ byte h in
+        let class : entryClass n ≡ 6 = rw (lt-leb letterEntry n (omega arith), lt-ltb n otherEntry h) in
+        marked n refl class ∙ rw (front-one s at inside) (mark-alone e fit _ (told .alone) _ (told .kind) (told .some) _)
+
+-- a test that passes wherever another does runs at least as far
+module _ (p q : ℕ → Bool) (wider : (b : ℕ) → p b ≡ true → q b ≡ true) where
+  run-narrow-by : (b : ℕ) (s : List ℕ) (t : Bool) → p b ≡ t → run p s ≤ run q s → run p (b ∷ s) ≤ run q (b ∷ s)
+  run-narrow-by b s true h below = rw (run-pass p b s h, run-pass q b s (wider b h)) (suc-le-suc below)
+  run-narrow-by b s false h below = rw (run-stop p b s h) zero-le
+
+  run-narrow : (s : List ℕ) → run p s ≤ run q s
+  run-narrow [] = rw (run-nil p) zero-le
+  run-narrow (b ∷ s) = run-narrow-by b s (p b) refl (run-narrow s)
+
+-- two tests that agree at every byte run equally far
+module _ (p q : ℕ → Bool) (agreeing : (b : ℕ) → b < 256 → p b ≡ q b) where
+  run-same : (s : List ℕ) → ((i : ℕ) → getD s i 0 < 256) → run p s ≡ run q s
+  unfolding run
+  run-same [] bytes = refl
+  run-same (b ∷ s) bytes = rw (agreeing b (bytes 0), run-same s (λ i. bytes (suc i)))
+
+-- where a run that may go on over letters, digits, spaces and minuses ends before the bytes do
+module _ (s : List ℕ) (at : ℕ) (bounded : Bounded s at) where
+  -- .. so does one over some of them
+  pub run-inside : (low high : ℕ) → spaceEntry ≤ low → high ≤ lastEntry → at + run (hasEntry low high) (drop at s) < length s
+  run-inside low high above below =
+      let wider : (b : ℕ) → hasEntry low high b ≡ true → hasEntry spaceEntry lastEntry b ≡ true =
+      λ b h.
+      let range = between-range low high (byteEntry b) h in
+      entry-within spaceEntry lastEntry b _ refl (omega arith) (omega arith) in
+      let less = run-narrow (hasEntry low high) (hasEntry spaceEntry lastEntry) wider (drop at s) in
+      omega arith
+
+  -- .. and so does the run from the next place on, where one of them stands
+  pub bounded-next : getD s at 0 < 256 → spaceEntry ≤ byteEntry (getD s at 0) → Bounded s (at + 1)
+  bounded-next byte above =
+      let on = entry-within spaceEntry lastEntry (getD s at 0) _ refl above (entry-last _ byte) in
+      rw (run-goes-on (hasEntry spaceEntry lastEntry) s at (omega arith) on) at bounded
+
+-- a run by entries from the next place on, where its first byte stands
+module _ (s : List ℕ) (bytes : (i : ℕ) → getD s i 0 < 256) (at : ℕ) (inside : at < length s) where
+  run-from : (low high : ℕ) (f : ℕ → Bool) → ((b : ℕ) → b < 256 → hasEntry low high b ≡ f b)
+      → run (hasEntry low high) (drop (at + 1) s) ≡ run f (drop (at + 1) s)
+  run-from low high f agreeing = run-same (hasEntry low high) f agreeing (drop (at + 1) s) (λ i. rw getD-drop (bytes (at + 1 + i)))
+
+  pub spaces-from : isSpace (getD s at 0) ≡ true
+      → at + 1 + run (hasEntry spaceEntry spaceEntry) (drop (at + 1) s) ≡ at + run isSpace (drop at s)
+  spaces-from h = rw (run-from spaceEntry spaceEntry isSpace entry-space) (sym (run-goes-on isSpace s at inside h))
+
+  pub digits-from : isDigit (getD s at 0) ≡ true
+      → at + 1 + run (hasEntry digitEntry digitEntry) (drop (at + 1) s) ≡ at + digits (drop at s)
+  digits-from h = rw (run-from digitEntry digitEntry isDigit entry-digit) (sym (run-goes-on isDigit s at inside h))
+
+  pub word-from : isLetter (getD s at 0) ≡ true
+      → wordLength (drop at s) ≡ suc (run (hasEntry digitEntry lastEntry) (drop (at + 1) s))
+  word-from h = rw (run-from digitEntry lastEntry isWordByte entry-word, front-one s at inside) (word-letter _ _ h)

@@ -1,61 +1,65 @@
+-- `lexer::packed::pack_lexeme` meets its contract. Assumes nothing.
 use borrow.Author.Needs.{needs}
+use native.Mathlib.Omega.{arith}
+use Rattle.lexer.specs.executable.Scans.{lexemeSize}
+use Rattle.lexer.specs.internal.Packed.{packed}
 use Rattle.lexer.proofs.packed.pack_lexeme.Statement.{statement}
 use Rattle.lexer.proofs.packed.pack_lexeme.Tie as tie
-use Rattle.lexer.proofs.packed.pack_lexeme.Reads as reads
-use Rattle.lexer.proofs.packed.pack_lexeme.Lts as lts
-use Rattle.lexer.proofs.packed.pack.Reads as pack-reads
 
--- src/packed.rt:50:24
 enum-told : tie.Need-enum-told
 enum-told c = search needs
 
--- src/packed.rt:51:25
 enum-known-lexeme : tie.Need-enum-known-lexeme
 enum-known-lexeme c = search needs
 
--- src/packed.rt:51:34
 add-result : tie.Need-add-result
-add-result c = ?
+unfolding lexemeSize
+add-result c =
+    let start = c .before .before .before in
+    let fits = rw (c .before .lexeme .given .1) at (start .pre) in
+    omega arith
 
--- src/packed.rt:52:23
 enum-known-lexeme-2 : tie.Need-enum-known-lexeme-2
 enum-known-lexeme-2 c = search needs
 
--- src/packed.rt:52:48
 add-pack : tie.Need-add-pack
-add-pack c = ?
+unfolding lexemeSize
+add-pack c =
+    let start = c .before .before .before in
+    let fits = rw (c .before .lexeme2 .given .1) at (start .pre) in
+    omega arith
 
--- src/packed.rt:52:37
 pack-requires : tie.Need-pack-requires
-pack-requires c κs = ?
+unfolding lexemeSize
+pack-requires c κs =
+    let start = c .before .before .before in
+    rw (c .before .lexeme2 .given .1) at (start .pre)
 
--- src/packed.rt:53:28
 enum-told-2 : tie.Need-enum-told-2
 enum-told-2 c = search needs
 
--- src/packed.rt:54:31
 enum-told-3 : tie.Need-enum-told-3
 enum-told-3 c = search needs
 
--- src/packed.rt:45:1
 returns : tie.Need-returns
-returns c = ?
+unfolding packed
+returns c = rw (c .enum-told .given .1)
 
--- src/packed.rt:45:1
 returns-2 : tie.Need-returns-2
-returns-2 c = ?
+unfolding packed
+returns-2 c = rw (c .before .lexeme .given .1)
 
--- src/packed.rt:45:1
 returns-3 : tie.Need-returns-3
-returns-3 c = ?
+unfolding packed
+returns-3 c = rw (c .before .before .lexeme2 .given .1) (c .pack .ensures)
 
--- src/packed.rt:45:1
 returns-4 : tie.Need-returns-4
-returns-4 c = ?
+unfolding packed
+returns-4 c = rw (c .enum-told2 .given .1)
 
--- src/packed.rt:45:1
 returns-5 : tie.Need-returns-5
-returns-5 c = ?
+unfolding packed
+returns-5 c = rw (c .enum-told3 .given .1)
 
 pub pack-lexeme-spec : {M : Type 1} → statement M
 pack-lexeme-spec =

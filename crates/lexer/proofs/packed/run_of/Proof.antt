@@ -1,46 +1,54 @@
+-- `lexer::packed::run_of` meets its contract: the place reached and what is left to run make the whole run, which ends before the
+-- source does. Assumes nothing.
+use mathlib.Core.Path.{refl}
+use Prim.Native.Nat.{_-_}
+use lib.ListN.{length}
+use borrow.Author.Needs.{needs}
+use Rattle.lexer.specs.internal.Entries.{hasEntry}
+use Rattle.lexer.specs.internal.Leaves.{Goes}
+use Rattle.lexer.proofs.Laws.Entries.{entry-within, entry-below, entry-above}
+use Rattle.lexer.proofs.Laws.Runs.{follow-on, follow-ends}
 use Rattle.lexer.proofs.packed.run_of.Statement.{statement}
 use Rattle.lexer.proofs.packed.run_of.Tie as tie
-use Rattle.lexer.proofs.packed.run_of.Reads as reads
-use Rattle.lexer.proofs.packed.run_of.Lts as lts
-use Rattle.lexer.proofs.entries.entry_of.Reads as entry-of-reads
 
 abbrev Inv-loop : tie.InvT-loop
-Inv-loop source entries from low high i₀ i = ?
+Inv-loop source entries from low high i₀ i = Goes (hasEntry low high) source from i
 
 abbrev μ-loop : tie.MeasureT-loop
-μ-loop source entries from low high i₀ i = ?
+μ-loop source entries from low high i₀ i = length source - i
 
--- src/packed.rt:65:5
 loop-holds : tie.Need-loop-holds Inv-loop μ-loop
-loop-holds c = ?
+loop-holds c = refl
 
--- src/packed.rt:66:48
 shared-slice-read-entry-of : tie.Need-shared-slice-read-entry-of Inv-loop μ-loop
-shared-slice-read-entry-of c = ?
+shared-slice-read-entry-of c = search needs
 
--- src/packed.rt:66:13
 entry-of-requires : tie.Need-entry-of-requires Inv-loop μ-loop
-entry-of-requires c κs = ?
+entry-of-requires c κs = search needs
 
--- src/packed.rt:68:13
 returns : tie.Need-returns Inv-loop μ-loop
-returns c = ?
+returns c =
+    let entry = c .before .entry-of in
+    let loop = c .before .before .before .loop in
+    follow-ends _ _ _ _ (loop .inv) (search needs) (entry-below _ _ _ _ (entry .ensures) (c .if1 .taken))
 
--- src/packed.rt:71:13
 returns-2 : tie.Need-returns-2 Inv-loop μ-loop
-returns-2 c = ?
+returns-2 c =
+    let entry = c .before .before .entry-of in
+    let loop = c .before .before .before .before .loop in
+    follow-ends _ _ _ _ (loop .inv) (search needs) (entry-above _ _ _ _ (entry .ensures) (c .if2 .taken))
 
--- src/packed.rt:73:9
 add-i : tie.Need-add-i Inv-loop μ-loop
-add-i c = ?
+add-i c = search needs
 
--- src/packed.rt:65:5
 loop-less : tie.Need-loop-less Inv-loop μ-loop
-loop-less c = ?
+loop-less c = search needs
 
--- src/packed.rt:65:5
 loop-again : tie.Need-loop-again Inv-loop μ-loop
-loop-again c = ?
+loop-again c =
+    let entry = c .before .before .entry-of in
+    let loop = c .before .before .before .before .loop in
+    follow-on _ _ _ _ (loop .inv) (search needs) (entry-within _ _ _ _ (entry .ensures) (c .before .if1 .left) (c .if2 .left))
 
 pub run-of-spec : {M : Type 1} → statement M
 run-of-spec =
