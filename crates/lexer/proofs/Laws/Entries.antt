@@ -23,7 +23,7 @@ use Rattle.lexer.specs.Numbers.{digits}
 use Rattle.lexer.specs.internal.Leaves.{byteClass}
 use Rattle.lexer.specs.internal.Entries.{otherEntry, slashEntry, backtickEntry, longerEntry, spaceEntry, minusEntry, digitEntry}
 use Rattle.lexer.specs.internal.Entries.{letterEntry, lastEntry, markEntry, byteEntry, hasEntry, Bounded}
-use Rattle.lexer.proofs.Laws.Tests.{and-false, and-left, and-right, not-true, between-range}
+use Rattle.lexer.proofs.Laws.Tests.{and-false, and-left, and-right, or-right, not-true, between-range}
 use Rattle.lexer.proofs.Laws.Editions.{kind17, FitEdition}
 use Rattle.lexer.proofs.Laws.Computed.{all, all-at}
 use Rattle.lexer.proofs.Laws.Classes.{agree, agreed, class-minus, class-slash, class-backtick}
@@ -173,21 +173,21 @@ module _ (e : Edition) (fit : FitEdition e) (b : ℕ) (alone : beginsNone b (edi
       let two = fit .two b c (none-longer b c [] (edition17 .marks) alone) in
       rw (fit .longest-three, three, two, fit .one b, h)
 
--- a byte with an entry below `otherEntry`
+-- a byte with an entry below `longerEntry`
 record MarkTold (b : ℕ) : Type 0 where
   kind : kind17 (b ∷ []) ≡ byteEntry b
   some : byteEntry b ≡ 0 → ⊥
   alone : beginsNone b (edition17 .marks) ≡ true
 
-mark-tests : (b : ℕ) → b < 256 → byteEntry b < otherEntry
+mark-tests : (b : ℕ) → b < 256 → byteEntry b < longerEntry
     → and (and (eqb (kind17 (b ∷ [])) (byteEntry b)) (ltb 0 (byteEntry b))) (beginsNone b (edition17 .marks)) ≡ true
 unfolding opened beginsNot beginsNone
 mark-tests b byte below =
     let is : ℕ → Bool = λ b. and (eqb (kind17 (b ∷ [])) (byteEntry b)) (ltb 0 (byteEntry b)) in
-    let test : ℕ → Bool = λ b. pick (ltb (byteEntry b) otherEntry) (and (is b) (beginsNone b (edition17 .marks))) true in
-    rw (lt-ltb (byteEntry b) otherEntry below) at (passes test tt b byte)
+    let test : ℕ → Bool = λ b. pick (ltb (byteEntry b) longerEntry) (and (is b) (beginsNone b (edition17 .marks))) true in
+    rw (lt-ltb (byteEntry b) longerEntry below) at (passes test tt b byte)
 
-mark-told : (b : ℕ) → b < 256 → byteEntry b < otherEntry → MarkTold b
+mark-told : (b : ℕ) → b < 256 → byteEntry b < longerEntry → MarkTold b
 mark-told b byte below =
     let told = mark-tests b byte below in
     let is = and-left _ _ told in
@@ -229,9 +229,11 @@ module _ (e : Edition) (s : List ℕ) (at : ℕ) (inside : at < length s) (byte 
       here (λ s. orElse (text s) (mark e s)) (lexeme-backtick e _ _ byte (class-told _ byte backtickEntry h))
       ∙ string-first s at inside (backtick-there _ byte h) _
 
-  pub longer-lexeme : byteEntry (getD s at 0) ≡ longerEntry → lexeme e (drop at s) ≡ mark e (drop at s)
+  pub longer-lexeme : byteEntry (getD s at 0) < otherEntry → lexeme e (drop at s) ≡ mark e (drop at s)
   unfolding entryClass
-  longer-lexeme h = marked longerEntry h refl
+  longer-lexeme h =
+      let n = byteEntry (getD s at 0) in
+      marked n refl (rw (lt-leb letterEntry n (omega arith), lt-ltb n otherEntry h))
 
   pub other-lexeme : byteEntry (getD s at 0) ≡ otherEntry → lexeme e (drop at s) ≡ mark e (drop at s)
   unfolding entryClass
@@ -247,13 +249,10 @@ module _ (e : Edition) (s : List ℕ) (at : ℕ) (inside : at < length s) (byte 
         here (λ s. orElse (comment s) (mark e s)) (lexeme-slash e _ _ byte (class-told _ byte slashEntry h))
         ∙ rw (front-one s at inside, is, found)
 
-    pub alone-lexeme : byteEntry (getD s at 0) < otherEntry → lexeme e (drop at s) ≡ Token (byteEntry (getD s at 0)) 1
-    unfolding entryClass
+    pub alone-lexeme : byteEntry (getD s at 0) < longerEntry → lexeme e (drop at s) ≡ Token (byteEntry (getD s at 0)) 1
     alone-lexeme h =
-        let n = byteEntry (getD s at 0) in
         let told = mark-told _ byte h in
-        let class : entryClass n ≡ 6 = rw (lt-leb letterEntry n (omega arith), lt-ltb n otherEntry h) in
-        marked n refl class ∙ rw (front-one s at inside) (mark-alone e fit _ (told .alone) _ (told .kind) (told .some) _)
+        longer-lexeme (omega arith) ∙ rw (front-one s at inside) (mark-alone e fit _ (told .alone) _ (told .kind) (told .some) _)
 
 -- a test that passes wherever another does runs at least as far
 module _ (p q : ℕ → Bool) (wider : (b : ℕ) → p b ≡ true → q b ≡ true) where
@@ -272,38 +271,41 @@ module _ (p q : ℕ → Bool) (agreeing : (b : ℕ) → b < 256 → p b ≡ q b)
   run-same [] bytes = refl
   run-same (b ∷ s) bytes = rw (agreeing b (bytes 0), run-same s (λ i. bytes (suc i)))
 
--- where a run that may go on over letters, digits, spaces and minuses ends before the bytes do
-module _ (s : List ℕ) (at : ℕ) (bounded : Bounded s at) where
-  -- .. so does one over some of them
-  pub run-inside : (low high : ℕ) → spaceEntry ≤ low → high ≤ lastEntry → at + run (hasEntry low high) (drop at s) < length s
-  run-inside low high above below =
-      let wider : (b : ℕ) → hasEntry low high b ≡ true → hasEntry spaceEntry lastEntry b ≡ true =
-      λ b h.
-      let range = between-range low high (byteEntry b) h in
-      entry-within spaceEntry lastEntry b _ refl (omega arith) (omega arith) in
-      let less = run-narrow (hasEntry low high) (hasEntry spaceEntry lastEntry) wider (drop at s) in
-      omega arith
+-- the bytes of a source, each below 256
+module _ (s : List ℕ) (bytes : (i : ℕ) → getD s i 0 < 256) where
+  -- a run by entries and by the test that they tell
+  run-by : (low high at : ℕ) (f : ℕ → Bool) → ((b : ℕ) → b < 256 → hasEntry low high b ≡ f b)
+      → run (hasEntry low high) (drop at s) ≡ run f (drop at s)
+  run-by low high at f agreeing = run-same (hasEntry low high) f agreeing (drop at s) (λ i. rw getD-drop (bytes (at + i)))
 
-  -- .. and so does the run from the next place on, where one of them stands
-  pub bounded-next : getD s at 0 < 256 → spaceEntry ≤ byteEntry (getD s at 0) → Bounded s (at + 1)
-  bounded-next byte above =
-      let on = entry-within spaceEntry lastEntry (getD s at 0) _ refl above (entry-last _ byte) in
-      rw (run-goes-on (hasEntry spaceEntry lastEntry) s at (omega arith) on) at bounded
+  pub digits-by : (at : ℕ) → run (hasEntry digitEntry digitEntry) (drop at s) ≡ digits (drop at s)
+  digits-by at = run-by digitEntry digitEntry at isDigit entry-digit
 
--- a run by entries from the next place on, where its first byte stands
-module _ (s : List ℕ) (bytes : (i : ℕ) → getD s i 0 < 256) (at : ℕ) (inside : at < length s) where
-  run-from : (low high : ℕ) (f : ℕ → Bool) → ((b : ℕ) → b < 256 → hasEntry low high b ≡ f b)
-      → run (hasEntry low high) (drop (at + 1) s) ≡ run f (drop (at + 1) s)
-  run-from low high f agreeing = run-same (hasEntry low high) f agreeing (drop (at + 1) s) (λ i. rw getD-drop (bytes (at + 1 + i)))
+  -- where a word goes on, it ends before the bytes do, and so do digits
+  module _ (at : ℕ) (bounded : Bounded s at) (on : isWordByte (getD s at 0) ≡ true) where
+    pub bounded-next : Bounded s (at + 1)
+    bounded-next = rw (run-goes-on isWordByte s at (omega arith) on) at bounded
 
-  pub spaces-from : isSpace (getD s at 0) ≡ true
-      → at + 1 + run (hasEntry spaceEntry spaceEntry) (drop (at + 1) s) ≡ at + run isSpace (drop at s)
-  spaces-from h = rw (run-from spaceEntry spaceEntry isSpace entry-space) (sym (run-goes-on isSpace s at inside h))
+    pub word-bounded : at + 1 + run (hasEntry digitEntry lastEntry) (drop (at + 1) s) < length s
+    word-bounded = rw (run-by digitEntry lastEntry (at + 1) isWordByte entry-word) bounded-next
 
-  pub digits-from : isDigit (getD s at 0) ≡ true
-      → at + 1 + run (hasEntry digitEntry digitEntry) (drop (at + 1) s) ≡ at + digits (drop at s)
-  digits-from h = rw (run-from digitEntry digitEntry isDigit entry-digit) (sym (run-goes-on isDigit s at inside h))
+    pub digits-bounded : at + 1 + run (hasEntry digitEntry digitEntry) (drop (at + 1) s) < length s
+    unfolding isWordByte
+    digits-bounded =
+        let less = run-narrow isDigit isWordByte (λ b h. or-right (isLetter b) (isDigit b) h) (drop (at + 1) s) in
+        let next = bounded-next in
+        rw (digits-by (at + 1)) (omega arith)
 
-  pub word-from : isLetter (getD s at 0) ≡ true
-      → wordLength (drop at s) ≡ suc (run (hasEntry digitEntry lastEntry) (drop (at + 1) s))
-  word-from h = rw (run-from digitEntry lastEntry isWordByte entry-word, front-one s at inside) (word-letter _ _ h)
+  -- a run by entries from the next place on, where its first byte stands
+  module _ (at : ℕ) (inside : at < length s) where
+    pub spaces-from : isSpace (getD s at 0) ≡ true
+        → at + 1 + run (hasEntry spaceEntry spaceEntry) (drop (at + 1) s) ≡ at + run isSpace (drop at s)
+    spaces-from h = rw (run-by spaceEntry spaceEntry (at + 1) isSpace entry-space) (sym (run-goes-on isSpace s at inside h))
+
+    pub digits-from : isDigit (getD s at 0) ≡ true
+        → at + 1 + run (hasEntry digitEntry digitEntry) (drop (at + 1) s) ≡ at + digits (drop at s)
+    digits-from h = rw (digits-by (at + 1)) (sym (run-goes-on isDigit s at inside h))
+
+    pub word-from : isLetter (getD s at 0) ≡ true
+        → wordLength (drop at s) ≡ suc (run (hasEntry digitEntry lastEntry) (drop (at + 1) s))
+    word-from h = rw (run-by digitEntry lastEntry (at + 1) isWordByte entry-word, front-one s at inside) (word-letter _ _ h)

@@ -7,35 +7,38 @@ use mathlib.Core.List.{List, [], _∷_}
 use lib.Dec.{eqb}
 use lib.ListN.{length, drop, getD}
 use Rattle.lexer.specs.Tests.{pick, among, between}
-use Rattle.lexer.specs.Bytes.{isDigit, isLetter, isSpace, run}
+use Rattle.lexer.specs.Bytes.{isDigit, isLetter, isSpace, isWordByte, run}
 use Rattle.lexer.specs.Spellings.{kindOf}
 use Rattle.lexer.specs.Editions.{edition17}
 use Rattle.lexer.specs.Words.{wordKind}
 
--- A byte's entry says what a lexeme that begins with it is: a word, with the kind that the letter has alone; a number; a number or a
--- mark; spaces; a mark, of one byte or a longer one; a string; a comment or a mark; or something else, an arrow or nothing. Below all
--- these stands the kind of a mark with which no longer one begins.
-abbrev pub otherEntry : ℕ
-otherEntry = 121
+-- A byte's entry says what a lexeme that begins with it is. Below `longerEntry` stands the kind of a mark with which no longer one begins;
+-- from there on, with `longerEntry` added, that of a mark with which a longer one does.
+abbrev pub longerEntry : ℕ
+longerEntry = 64
 
+-- an arrow, or nothing
+abbrev pub otherEntry : ℕ
+otherEntry = 122
+
+-- a comment or a mark
 abbrev pub slashEntry : ℕ
-slashEntry = 122
+slashEntry = 123
 
 abbrev pub backtickEntry : ℕ
-backtickEntry = 123
-
-abbrev pub longerEntry : ℕ
-longerEntry = 124
+backtickEntry = 124
 
 abbrev pub spaceEntry : ℕ
 spaceEntry = 125
 
+-- a number or a mark
 abbrev pub minusEntry : ℕ
 minusEntry = 126
 
 abbrev pub digitEntry : ℕ
 digitEntry = 127
 
+-- from here on a word, with the kind that the letter has alone added
 abbrev pub letterEntry : ℕ
 letterEntry = 128
 
@@ -57,7 +60,7 @@ byteEntry b =
     (pick (isDigit b) digitEntry
     (pick (eqb b (code "-")) minusEntry
     (pick (isSpace b) spaceEntry
-    (pick (among longer b) longerEntry
+    (pick (among longer b) (longerEntry + kindOf (edition17 .marks) (b ∷ []))
     (pick (eqb b (code "`")) backtickEntry
     (pick (eqb b (code "/")) slashEntry (markEntry (kindOf (edition17 .marks) (b ∷ [])))))))))
 
@@ -69,9 +72,9 @@ Entries table = (b : ℕ) → b < 256 → getD table b 0 ≡ byteEntry b
 abbrev pub hasEntry : ℕ → ℕ → ℕ → Bool
 hasEntry low high b = between low high (byteEntry b)
 
--- a run over letters, digits, spaces and minuses from a place on ends before the bytes do
+-- the bytes from a place on that a word goes on over end before the bytes do
 abbrev pub Bounded : List ℕ → ℕ → Type 0
-Bounded s at = at + run (hasEntry spaceEntry lastEntry) (drop at s) < length s
+Bounded s at = at + run isWordByte (drop at s) < length s
 
 -- a place before which that is so of every place and of the next
 abbrev pub Stop : List ℕ → ℕ → Type 0

@@ -1,29 +1,24 @@
--- `lexer::passes::last_stop` meets its contract: a byte over which no run goes on ends every run before it. Assumes nothing.
+-- `lexer::passes::last_stop` meets its contract. Assumes nothing.
 use Prim.Native.Nat.{ℕ, _+_, _≤_, _<_}
-use mathlib.Core.Path.{_≡_}
+use mathlib.Core.Path.{_≡_, _∙_, sym}
 use mathlib.Core.Bool.{false}
 use mathlib.Core.List.{List}
 use native.Mathlib.Omega.{arith}
 use lib.ListN.{length, getD}
 use borrow.Author.Needs.{needs}
-use borrow.Author.Tests.{lt-leb}
-use Rattle.lexer.specs.Tests.{and, between}
-use Rattle.lexer.specs.internal.Entries.{byteEntry, hasEntry, spaceEntry, lastEntry, Stop}
+use Rattle.lexer.specs.Bytes.{isWordByte}
+use Rattle.lexer.specs.internal.Entries.{digitEntry, lastEntry, Stop}
+use Rattle.lexer.proofs.Laws.Entries.{entry-below, entry-word}
 use Rattle.lexer.proofs.Laws.Runs.{run-upto}
 use Rattle.lexer.proofs.passes.last_stop.Statement.{statement}
 use Rattle.lexer.proofs.passes.last_stop.Tie as tie
 
--- no run goes on over a byte whose entry is lower
-low-entry : (b : ℕ) → byteEntry b < spaceEntry → hasEntry spaceEntry lastEntry b ≡ false
-unfolding between and
-low-entry b h = rw (lt-leb _ _ h)
-
-stops : (s : List ℕ) (i : ℕ) → i < length s → byteEntry (getD s i 0) < spaceEntry → Stop s i
-stops s i inside low =
+-- a byte that no word goes on over ends every word before it
+stops : (s : List ℕ) (i : ℕ) → i < length s → isWordByte (getD s i 0) ≡ false → Stop s i
+stops s i inside out =
     λ at before.
-    let ends = low-entry _ low in
-    let here = run-upto (hasEntry spaceEntry lastEntry) s at i (omega arith) inside ends in
-    let next = run-upto (hasEntry spaceEntry lastEntry) s (at + 1) i (omega arith) inside ends in
+    let here = run-upto isWordByte s at i (omega arith) inside out in
+    let next = run-upto isWordByte s (at + 1) i (omega arith) inside out in
     (omega arith, omega arith)
 
 abbrev Inv-loop : tie.InvT-loop
@@ -53,8 +48,9 @@ returns c =
     let some = c .before .before .before .loop-test .taken in
     let upto = c .before .before .before .before .loop .inv in
     let entry = c .before .entry-of .ensures in
+    let byte = c .before .before .shared-slice-known2 .given _ .fits in
     let low = c .if1 .taken in
-    stops (args .source .now) _ (omega arith) (rw entry at low)
+    stops (args .source .now) _ (omega arith) (sym (entry-word _ byte) ∙ entry-below digitEntry lastEntry _ _ entry (omega arith))
 
 loop-less : tie.Need-loop-less Inv-loop μ-loop
 loop-less c = let some = c .before .before .before .loop-test .taken in omega arith

@@ -1,4 +1,4 @@
--- `lexer::packed::run_of` meets its contract: the place reached and what is left to run make the whole run, which ends before the
+-- `lexer::packed::bounded_end` meets its contract: the place reached and what is left to run make the whole run, which ends before the
 -- source does. Assumes nothing.
 use mathlib.Core.Path.{refl}
 use Prim.Native.Nat.{_-_}
@@ -8,8 +8,8 @@ use Rattle.lexer.specs.internal.Entries.{hasEntry}
 use Rattle.lexer.specs.internal.Leaves.{Goes}
 use Rattle.lexer.proofs.Laws.Entries.{entry-within, entry-below, entry-above}
 use Rattle.lexer.proofs.Laws.Runs.{follow-on, follow-ends}
-use Rattle.lexer.proofs.packed.run_of.Statement.{statement}
-use Rattle.lexer.proofs.packed.run_of.Tie as tie
+use Rattle.lexer.proofs.packed.bounded_end.Statement.{statement}
+use Rattle.lexer.proofs.packed.bounded_end.Tie as tie
 
 abbrev Inv-loop : tie.InvT-loop
 Inv-loop source entries from low high i₀ i = Goes (hasEntry low high) source from i
@@ -50,8 +50,8 @@ loop-again c =
     let loop = c .before .before .before .before .loop in
     follow-on _ _ _ _ (loop .inv) (search needs) (entry-within _ _ _ _ (entry .ensures) (c .before .if1 .left) (c .if2 .left))
 
-pub run-of-spec : {M : Type 1} → statement M
-run-of-spec =
+pub bounded-end-spec : {M : Type 1} → statement M
+bounded-end-spec =
     tie.close
     (tie.spec
     Inv-loop
