@@ -9,7 +9,7 @@ use native.Mathlib.Omega.{arith}
 use lib.Dec.{T, eqb, leb, ltb}
 use lib.ListN.{length, drop, getD}
 use lib.Seq.{getD-drop}
-use borrow.Author.Tests.{le-leb, lt-leb, lt-ltb, eqb-true, eq-eqb, ne-eqb, leb-true, ltb-true}
+use borrow.Author.Tests.{le-leb, lt-leb, lt-ltb, eqb-true, eq-eqb, leb-true, ltb-true}
 use Rattle.lexer.specs.Tests.{and, or, pick, between, among}
 use Rattle.lexer.specs.Bytes.{isDigit, isLetter, isSpace, isWordByte, run}
 use Rattle.lexer.specs.Editions.{Edition, edition17}

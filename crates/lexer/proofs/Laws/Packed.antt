@@ -1,19 +1,28 @@
--- Lexemes packed into one number, and taken out of it. Assumes nothing.
-use Prim.Native.Nat.{ℕ, _+_, _-_, _*_, _/_, _%_, _<_, _≤_}
-use mathlib.Core.Path.{_≡_, _∙_}
+-- Lexemes packed into one number, rule by rule, and taken out of it. Assumes nothing.
+use Prim.Native.Nat.{ℕ, suc, _+_, _-_, _*_, _/_, _%_, _<_, _≤_}
+use mathlib.Core.Path.{_≡_, refl, _∙_}
 use mathlib.Core.Bool.{true}
-use mathlib.Core.List.{List}
+use mathlib.Core.List.{List, [], _∷_}
 use native.Mathlib.Omega.{arith}
 use native.Mathlib.Nat.{add-zero, zero-div, zero-mod, div-eq-of-lt, mod-eq-of-lt, mul-add-div-right, mul-add-mod-self-right}
-use lib.ListN.{length, drop, length-drop}
+use lib.ListN.{length, take, drop, getD, length-drop}
+use Rattle.lexer.specs.Bytes.{isLetter, run}
 use Rattle.lexer.specs.Editions.{Edition}
-use Rattle.lexer.specs.Lexemes.{lexeme}
+use Rattle.lexer.specs.Words.{wordLength, wordKind, joins}
+use Rattle.lexer.specs.Numbers.{digits, fraction, exponent}
+use Rattle.lexer.specs.Lexemes.{word, unsignedNumber, lexeme}
+use Rattle.lexer.specs.executable.Scans.{lexemeSize}
 use Rattle.lexer.specs.Table.{sourceLimit}
-use Rattle.lexer.specs.internal.Kinds.{lastKind}
+use Rattle.lexer.specs.internal.Entries.{digitEntry, lastEntry, byteEntry, hasEntry, Bounded}
+use Rattle.lexer.specs.internal.Kinds.{ident, int, float, lastKind}
 use Rattle.lexer.specs.internal.Packed.{packing, packed}
 use Rattle.lexer.specs.declared.Lexeme.{Lexeme}
 use Rattle.lexer.specs.declared.Lexeme.the-variants.{End, Skipped, Token, BadByte, OpenString}
-use Rattle.lexer.proofs.Laws.Sizes.{Proper, spelled, of-token, of-skip, proper}
+use Rattle.lexer.proofs.Laws.Entries.{entry-within, entry-below, entry-last, run-inside, word-from}
+use Rattle.lexer.proofs.Laws.Numbers.{whole-number, float-number}
+use Rattle.lexer.proofs.Laws.Runs.{run-goes-on, run-ends}
+use Rattle.lexer.proofs.Laws.Sizes.{Proper, spelled, of-token, of-skip, proper-unsigned, proper}
+use Rattle.lexer.proofs.Laws.Words.{word-le, kind-other, kind-one-at, ident-word, letter-word}
 
 -- a kind and a place below `packing` come out of the number that they make
 module _ (k end : ℕ) (below : end < packing) where
@@ -118,3 +127,102 @@ module _ (e : Edition) (good : spelled (e .marks) ≡ true) (s : List ℕ) (at f
 
   pub unpack-none : found / packing ≡ 0 → found % packing ≡ 0 → Ends (lexeme e (drop at s))
   unpack-none none zero = none-by s at inside short _ (proper e good (drop at s)) (rw told at none) (rw told at zero)
+
+-- a lexeme of a source that is not too long can be packed
+pub packs : (s : List ℕ) (at : ℕ) (l : Lexeme) → at ≤ length s → length s < packing → Proper (drop at s) l → at + lexemeSize l < packing
+unfolding lexemeSize
+packs s at End inside short p = omega arith
+packs s at (Skipped n) inside short p =
+    let t = of-skip p in
+    let l = length-drop at s in
+    omega arith
+packs s at (Token k n) inside short p =
+    let t = of-token p in
+    let l = length-drop at s in
+    omega arith
+packs s at BadByte inside short p = omega arith
+packs s at OpenString inside short p = omega arith
+
+-- a word at a place that is an IDENT, and where it ends
+pub record IdentEnds (s : List ℕ) (at end : ℕ) : Type 0 where
+  pub place : end ≡ at + wordLength (drop at s)
+  pub some : at < end
+  pub inside : end < length s
+  pub kind : wordKind (take (wordLength (drop at s)) (drop at s)) ≡ ident
+
+pub ident-packed : (s : List ℕ) (at end : ℕ) → IdentEnds s at end
+    → ident * packing + (end + joins (drop end s)) ≡ packed at (word (drop at s))
+unfolding packed
+ident-packed s at end is =
+    let place = is .place in
+    let some = is .some in
+    rw (ident-word s at (omega arith) (is .kind), ← place) (omega arith)
+
+-- the word at a place where a letter stands, by the entry of the byte after it
+module _ (s : List ℕ) (bytes : (i : ℕ) → getD s i 0 < 256) (at : ℕ) (letter : isLetter (getD s at 0) ≡ true)
+    (next : Bounded s (at + 1)) where
+  length-told : wordLength (drop at s) ≡ suc (run (hasEntry digitEntry lastEntry) (drop (at + 1) s))
+  length-told = word-from s bytes at (omega arith) letter
+
+  -- .. where it goes on
+  module _ (more : digitEntry ≤ byteEntry (getD s (at + 1) 0)) where
+    going : at + 1 + run (hasEntry digitEntry lastEntry) (drop (at + 1) s)
+        ≡ at + 1 + 1 + run (hasEntry digitEntry lastEntry) (drop (at + 1 + 1) s)
+    going =
+        run-goes-on (hasEntry digitEntry lastEntry) s (at + 1) (omega arith)
+        (entry-within digitEntry lastEntry _ _ refl more (entry-last _ (bytes (at + 1))))
+
+    pub word-inside : at + 1 + 1 + run (hasEntry digitEntry lastEntry) (drop (at + 1 + 1) s) < length s
+    word-inside = rw going at (run-inside s (at + 1) next digitEntry lastEntry (omega arith) (omega arith))
+
+    pub long-ident : (end : ℕ) → end ≡ at + 1 + 1 + run (hasEntry digitEntry lastEntry) (drop (at + 1 + 1) s) → IdentEnds s at end
+    long-ident end ends =
+        let size = length-told in
+        let on = going in
+        let within = word-inside in
+        record {
+          place = omega arith;
+          some = omega arith;
+          inside = omega arith;
+          kind = kind-other (wordLength (drop at s)) (drop at s) (word-le (drop at s)) (λ q. omega arith);
+        }
+
+  -- .. and where it does not
+  module _ (last : byteEntry (getD s (at + 1) 0) < digitEntry) where
+    pub one-letter : wordLength (drop at s) ≡ 1
+    one-letter =
+        let stops = run-ends (hasEntry digitEntry lastEntry) s (at + 1) (omega arith) (entry-below digitEntry lastEntry _ _ refl last) in
+        rw stops at length-told
+
+    pub letter-ident : wordKind (getD s at 0 ∷ []) ≡ ident → IdentEnds s at (at + 1)
+    letter-ident is = record {
+      place = rw one-letter;
+      some = omega arith;
+      inside = omega arith;
+      kind = rw one-letter (kind-one-at s at one-letter ∙ is);
+    }
+
+    pub letter-packed : (k : ℕ) → wordKind (getD s at 0 ∷ []) ≡ k → (k ≡ ident → ⊥) → k * packing + (at + 1) ≡ packed at (word (drop at s))
+    unfolding packed
+    letter-packed k is other = rw (letter-word s at one-letter (rw is other), is)
+
+-- the number at a place whose digits end at `whole`
+module _ (s : List ℕ) (at whole : ℕ) (after : at < whole) (place : whole ≡ at + digits (drop at s)) where
+  pub int-packed : fraction (drop whole s) ≡ 0 → int * packing + whole ≡ packed at (unsignedNumber (drop at s))
+  unfolding packed
+  int-packed none = rw (whole-number s at (omega arith) (rw (← place) none)) (omega arith)
+
+  module _ (point end : ℕ) (fractional : point ≡ whole + fraction (drop whole s)) (some : whole < point)
+      (ends : end ≡ point + exponent (drop point s)) where
+    float-told : unsignedNumber (drop at s) ≡ Token float (digits (drop at s) + fraction (drop whole s) + exponent (drop point s))
+    float-told = rw (fractional, place) (float-number s at (omega arith) (rw (← place) (omega arith)))
+
+    pub float-packed : float * packing + end ≡ packed at (unsignedNumber (drop at s))
+    unfolding packed
+    float-packed = rw float-told (omega arith)
+
+    pub float-inside : at ≤ length s → end ≤ length s
+    float-inside inside =
+        let token = of-token (rw float-told at (proper-unsigned (drop at s))) in
+        let left = length-drop at s in
+        omega arith

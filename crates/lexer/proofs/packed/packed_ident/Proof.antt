@@ -1,33 +1,49 @@
+-- `lexer::packed::packed_ident` meets its contract: only a `:` can begin what joins an IDENT. Assumes nothing.
+use Prim.Native.Nat.{ℕ, _<_}
+use mathlib.Core.Path.{_≡_}
+use mathlib.Core.List.{List}
+use native.Mathlib.Omega.{arith}
+use native.Mathlib.Nat.{add-zero}
+use lib.ListN.{length, drop, getD, length-drop}
+use borrow.Author.Needs.{needs}
+use Rattle.lexer.specs.Words.{joins}
+use Rattle.lexer.proofs.Laws.Fronts.{front-one}
+use Rattle.lexer.proofs.Laws.Sizes.{joins-le}
+use Rattle.lexer.proofs.Laws.Words.{colons-other, joins-none}
 use Rattle.lexer.proofs.packed.packed_ident.Statement.{statement}
 use Rattle.lexer.proofs.packed.packed_ident.Tie as tie
-use Rattle.lexer.proofs.packed.packed_ident.Reads as reads
-use Rattle.lexer.proofs.packed.packed_ident.Lts as lts
-use Rattle.lexer.proofs.packed.pack.Reads as pack-reads
-use Rattle.lexer.proofs.words.joins_end.Reads as joins-end-reads
 
--- src/packed.rt:82:8
+-- nothing joins where no `:` stands
+none-joins : (s : List ℕ) (end : ℕ) → end < length s → (getD s end 0 ≡ 0x3A → ⊥) → joins (drop end s) ≡ 0
+none-joins s end inside other = rw (front-one s end inside) (joins-none _ (colons-other _ _ other))
+
 shared-slice-read-if1 : tie.Need-shared-slice-read-if1
-shared-slice-read-if1 c = ?
+shared-slice-read-if1 c = search needs
 
--- src/packed.rt:83:35
 joins-end-requires : tie.Need-joins-end-requires
-joins-end-requires c κs = ?
+joins-end-requires c κs = search needs
 
--- src/packed.rt:83:9
 pack-requires : tie.Need-pack-requires
-pack-requires c κs = ?
+pack-requires c κs =
+    let start = c .before .before .before .before in
+    let s = start .args .source .now in
+    let end = start .args .end in
+    let joined = c .joins-end .ensures in
+    let within = joins-le (drop end s) in
+    let left = length-drop end s in
+    omega arith
 
--- src/packed.rt:83:9
 returns : tie.Need-returns
-returns c = ?
+returns c = rw (c .before .joins-end .ensures) at (c .pack .ensures)
 
--- src/packed.rt:85:5
 pack-requires-2 : tie.Need-pack-requires-2
-pack-requires-2 c κs = ?
+pack-requires-2 c κs = search needs
 
--- src/packed.rt:78:1
 returns-2 : tie.Need-returns-2
-returns-2 c = ?
+returns-2 c =
+    let start = c .before .before .before .before in
+    let s = start .args .source .now in
+    rw (none-joins s (start .args .end) (start .pre .0) (c .before .if1 .left), add-zero) (c .pack2 .ensures)
 
 pub packed-ident-spec : {M : Type 1} → statement M
 packed-ident-spec =
