@@ -9,13 +9,13 @@ use native.Mathlib.Omega.{arith}
 use lib.Dec.{T, eqb, leb, ltb}
 use lib.ListN.{length, drop, getD}
 use lib.Seq.{getD-drop}
-use borrow.Author.Tests.{le-leb, lt-leb, lt-ltb, eqb-true, eq-eqb, leb-true, ltb-true}
+use borrow.Author.Tests.{le-leb, lt-leb, le-ltb, lt-ltb, eqb-true, eqb-false, eq-eqb, leb-true, ltb-true}
 use Rattle.lexer.specs.Tests.{and, or, pick, between, among}
 use Rattle.lexer.specs.Bytes.{isDigit, isLetter, isSpace, isWordByte, run}
 use Rattle.lexer.specs.Editions.{Edition, edition17}
 use Rattle.lexer.specs.Lexemes.{spaces, comment, word, unsignedNumber, number, text, markOf, markUpTo, mark, orElse, lexeme}
 use Rattle.lexer.specs.declared.Lexeme.{Lexeme}
-use Rattle.lexer.specs.declared.Lexeme.the-variants.{Token}
+use Rattle.lexer.specs.declared.Lexeme.the-variants.{Token, BadByte}
 use Rattle.lexer.specs.internal.Kinds.{slash}
 use Rattle.lexer.specs.Spellings.{Spelling, same, kindOf, reserved, spelledMarks}
 use Rattle.lexer.specs.Words.{wordLength, orIdent, wordKind}
@@ -23,13 +23,14 @@ use Rattle.lexer.specs.Numbers.{digits}
 use Rattle.lexer.specs.internal.Leaves.{byteClass}
 use Rattle.lexer.specs.internal.Entries.{otherEntry, slashEntry, backtickEntry, longerEntry, spaceEntry, minusEntry, digitEntry}
 use Rattle.lexer.specs.internal.Entries.{letterEntry, lastEntry, markEntry, byteEntry, hasEntry, Bounded}
-use Rattle.lexer.proofs.Laws.Tests.{and-false, and-left, and-right, or-right, not-true, between-range}
+use Rattle.lexer.proofs.Laws.Tests.{and-false, and-left, and-right, or-left, or-right, not-true, between-range}
 use Rattle.lexer.proofs.Laws.Editions.{kind17, FitEdition}
 use Rattle.lexer.proofs.Laws.Computed.{all, all-at}
 use Rattle.lexer.proofs.Laws.Classes.{agree, agreed, class-minus, class-slash, class-backtick}
 use Rattle.lexer.proofs.Laws.Fronts.{front-one}
+use Rattle.lexer.proofs.Laws.Marks.{mark-found, one-enough}
 use Rattle.lexer.proofs.Laws.Lexemes.{lexeme-letter, lexeme-space, lexeme-digit, lexeme-minus, lexeme-slash, lexeme-backtick}
-use Rattle.lexer.proofs.Laws.Lexemes.{lexeme-mark, string-first}
+use Rattle.lexer.proofs.Laws.Lexemes.{lexeme-mark, string-first, slash-mark}
 use Rattle.lexer.proofs.Laws.Runs.{run-nil, run-pass, run-stop, run-goes-on}
 use Rattle.lexer.proofs.Laws.Words.{word-letter}
 
@@ -46,6 +47,18 @@ module _ (low high b entry : ℕ) (looked : entry ≡ byteEntry b) where
   pub entry-above : high < entry → hasEntry low high b ≡ false
   unfolding between
   entry-above above = rw (← looked, lt-leb entry high above, and-false)
+
+-- .. one entry or another
+module _ (n b entry : ℕ) (looked : entry ≡ byteEntry b) where
+  pub entry-same : entry ≡ n → hasEntry n n b ≡ true
+  entry-same same = entry-within n n b entry looked (omega arith) (omega arith)
+
+  pub entry-other : (entry ≡ n → ⊥) → hasEntry n n b ≡ false
+  entry-other other = by (hasEntry n n b) refl
+    where
+      by : (t : Bool) → hasEntry n n b ≡ t → hasEntry n n b ≡ false
+      by true h = let range = between-range n n (byteEntry b) h in absurd (other (omega arith))
+      by false h = h
 
 -- `byteEntry`, opened down to its parts, with the tests that it is held against: whoever computes entries unfolds this one name
 unfoldable opened : ℕ → ℕ
@@ -139,60 +152,62 @@ module _ (b : ℕ) (byte : b < 256) where
   backtick-there h = eqb-true _ _ (sym (class-backtick b byte) ∙ eq-eqb _ _ (class-told backtickEntry h))
 
 -- whether no spelling of two bytes or more begins with a byte
-unfoldable pub beginsNot : ℕ → List ℕ → Bool
+unfoldable beginsNot : ℕ → List ℕ → Bool
 beginsNot b [] = true
 beginsNot b (a ∷ []) = true
 beginsNot b (a ∷ c ∷ t) = not (eqb b a)
 
-unfoldable pub beginsNone : ℕ → List Spelling → Bool
+unfoldable beginsNone : ℕ → List Spelling → Bool
 beginsNone b [] = true
 beginsNone b (m ∷ ms) = and (beginsNot b (m .text)) (beginsNone b ms)
 
-module _ (b c : ℕ) (t : List ℕ) where
-  other-spelling : (w : List ℕ) → beginsNot b w ≡ true → same w (b ∷ c ∷ t) ≡ false
+module _ (b c : ℕ) where
+  other-spelling : (w : List ℕ) → beginsNot b w ≡ true → same w (b ∷ c ∷ []) ≡ false
   unfolding beginsNot same and
   other-spelling [] h = refl
   other-spelling (a ∷ []) h = refl
-  other-spelling (a ∷ d ∷ w) h = rw (not-true (eqb b a) h) (and-false (same (d ∷ w) (c ∷ t)))
+  other-spelling (a ∷ d ∷ w) h = rw (not-true (eqb b a) h) (and-false (same (d ∷ w) (c ∷ [])))
 
-  none-longer : (ms : List Spelling) → beginsNone b ms ≡ true → kindOf ms (b ∷ c ∷ t) ≡ 0
+  none-longer : (ms : List Spelling) → beginsNone b ms ≡ true → kindOf ms (b ∷ c ∷ []) ≡ 0
   unfolding beginsNone kindOf
   none-longer [] h = refl
   none-longer (m ∷ ms) h = rw (other-spelling (m .text) (and-left _ _ h)) (none-longer ms (and-right _ _ h))
 
--- the mark that a byte is, where no longer one begins with it
-module _ (e : Edition) (fit : FitEdition e) (b : ℕ) (alone : beginsNone b (edition17 .marks) ≡ true) where
-  pub mark-alone : (k : ℕ) → kind17 (b ∷ []) ≡ k → (k ≡ 0 → ⊥) → (t : List ℕ) → mark e (b ∷ t) ≡ Token k 1
-  unfolding mark markUpTo markOf
-  mark-alone zero h some t = absurd (some refl)
-  mark-alone (suc k) h some [] = rw (fit .longest-three, fit .one b, h)
-  mark-alone (suc k) h some (c ∷ []) =
-      rw (fit .longest-three, fit .two b c (none-longer b c [] (edition17 .marks) alone), fit .one b, h)
-  mark-alone (suc k) h some (c ∷ d ∷ t) =
-      let three = fit .three b c d ∙ none-longer b c (d ∷ []) (edition17 .marks) alone in
-      let two = fit .two b c (none-longer b c [] (edition17 .marks) alone) in
-      rw (fit .longest-three, three, two, fit .one b, h)
+-- a byte that is a mark of some kind, and does not begin an arrow
+pub record MarkTold (b kind : ℕ) : Type 0 where
+  pub is : kind17 (b ∷ []) ≡ kind
+  pub some : kind ≡ 0 → ⊥
+  pub no-arrow : b ≡ 0xE2 → ⊥
 
--- a byte with an entry below `longerEntry`
-record MarkTold (b : ℕ) : Type 0 where
-  kind : kind17 (b ∷ []) ≡ byteEntry b
-  some : byteEntry b ≡ 0 → ⊥
-  alone : beginsNone b (edition17 .marks) ≡ true
+-- .. as a test
+isMark : ℕ → ℕ → Bool
+isMark b kind = and (and (eqb (kind17 (b ∷ [])) kind) (ltb 0 kind)) (not (eqb b 0xE2))
 
-mark-tests : (b : ℕ) → b < 256 → byteEntry b < longerEntry
-    → and (and (eqb (kind17 (b ∷ [])) (byteEntry b)) (ltb 0 (byteEntry b))) (beginsNone b (edition17 .marks)) ≡ true
-unfolding opened beginsNot beginsNone
-mark-tests b byte below =
-    let is : ℕ → Bool = λ b. and (eqb (kind17 (b ∷ [])) (byteEntry b)) (ltb 0 (byteEntry b)) in
-    let test : ℕ → Bool = λ b. pick (ltb (byteEntry b) longerEntry) (and (is b) (beginsNone b (edition17 .marks))) true in
-    rw (lt-ltb (byteEntry b) longerEntry below) at (passes test tt b byte)
+mark-told : (b kind : ℕ) → isMark b kind ≡ true → MarkTold b kind
+unfolding isMark
+mark-told b kind told =
+    let kinds = and-left _ _ told in
+    let some = ltb-true 0 kind (and-right _ _ kinds) in
+    record {
+      is = eqb-true _ _ (and-left _ _ kinds);
+      some = omega arith;
+      no-arrow = eqb-false _ _ (not-true _ (and-right (and (eqb (kind17 (b ∷ [])) kind) (ltb 0 kind)) _ told));
+    }
 
-mark-told : (b : ℕ) → b < 256 → byteEntry b < longerEntry → MarkTold b
-mark-told b byte below =
-    let told = mark-tests b byte below in
-    let is = and-left _ _ told in
-    let some = ltb-true 0 (byteEntry b) (and-right _ _ is) in
-    record { kind = eqb-true _ _ (and-left _ _ is); some = omega arith; alone = and-right _ _ told }
+module _ (b : ℕ) (byte : b < 256) where
+  -- a byte with an entry below `longerEntry`: no longer mark begins with it
+  alone-tests : byteEntry b < longerEntry → and (isMark b (byteEntry b)) (beginsNone b (edition17 .marks)) ≡ true
+  unfolding opened isMark beginsNot beginsNone
+  alone-tests below =
+      let test : ℕ → Bool = λ b. pick (ltb (byteEntry b) longerEntry) (and (isMark b (byteEntry b)) (beginsNone b (edition17 .marks))) true in
+      rw (lt-ltb (byteEntry b) longerEntry below) at (passes test tt b byte)
+
+  -- .. and with one from there up to `otherEntry`
+  pub longer-told : longerEntry ≤ byteEntry b → byteEntry b < otherEntry → MarkTold b (byteEntry b - longerEntry)
+  unfolding opened isMark
+  longer-told above below =
+      let test : ℕ → Bool = λ b. or (ltb (byteEntry b) longerEntry) (or (leb otherEntry (byteEntry b)) (isMark b (byteEntry b - longerEntry))) in
+      mark-told b _ (rw (le-ltb _ _ above, lt-leb _ _ below) at (passes test tt b byte))
 
 -- the lexeme at a place, by the entry of the byte there
 module _ (e : Edition) (s : List ℕ) (at : ℕ) (inside : at < length s) (byte : getD s at 0 < 256) where
@@ -242,17 +257,19 @@ module _ (e : Edition) (s : List ℕ) (at : ℕ) (inside : at < length s) (byte 
   -- .. where the edition is fit
   module _ (fit : FitEdition e) where
     pub slash-lexeme : byteEntry (getD s at 0) ≡ slashEntry → lexeme e (drop at s) ≡ orElse (comment (drop at s)) (Token slash 1)
-    unfolding opened entryClass beginsNot beginsNone
+    unfolding entryClass
     slash-lexeme h =
-        let is = slash-there _ byte h in
-        let found = mark-alone e fit (code "/") refl slash refl (λ q. omega arith) (drop (at + 1) s) in
         here (λ s. orElse (comment s) (mark e s)) (lexeme-slash e _ _ byte (class-told _ byte slashEntry h))
-        ∙ rw (front-one s at inside, is, found)
+        ∙ rw (slash-mark s at inside (slash-there _ byte h) e fit)
 
     pub alone-lexeme : byteEntry (getD s at 0) < longerEntry → lexeme e (drop at s) ≡ Token (byteEntry (getD s at 0)) 1
     alone-lexeme h =
-        let told = mark-told _ byte h in
-        longer-lexeme (omega arith) ∙ rw (front-one s at inside) (mark-alone e fit _ (told .alone) _ (told .kind) (told .some) _)
+        let tests = alone-tests _ byte h in
+        let told = mark-told _ _ (and-left _ _ tests) in
+        let longer = λ (c : ℕ). none-longer _ c (edition17 .marks) (and-right (isMark (getD s at 0) (byteEntry (getD s at 0))) _ tests) in
+        longer-lexeme (omega arith)
+        ∙ rw (front-one s at inside) (one-enough e fit _ _ (told .no-arrow) longer)
+        ∙ rw (told .is) (mark-found _ 1 BadByte (told .some))
 
 -- a test that passes wherever another does runs at least as far
 module _ (p q : ℕ → Bool) (wider : (b : ℕ) → p b ≡ true → q b ≡ true) where
@@ -271,6 +288,19 @@ module _ (p q : ℕ → Bool) (agreeing : (b : ℕ) → b < 256 → p b ≡ q b)
   run-same [] bytes = refl
   run-same (b ∷ s) bytes = rw (agreeing b (bytes 0), run-same s (λ i. bytes (suc i)))
 
+-- a word goes on over letters and digits
+pub letter-on : (b : ℕ) → isLetter b ≡ true → isWordByte b ≡ true
+unfolding isWordByte
+letter-on b h = or-left (isLetter b) (isDigit b) h
+
+pub digit-on : (b : ℕ) → isDigit b ≡ true → isWordByte b ≡ true
+unfolding isWordByte
+digit-on b h = or-right (isLetter b) (isDigit b) h
+
+-- where it does, it is bounded from the next place on too
+pub bounded-next : (s : List ℕ) (at : ℕ) → Bounded s at → isWordByte (getD s at 0) ≡ true → Bounded s (at + 1)
+bounded-next s at bounded on = rw (run-goes-on isWordByte s at (omega arith) on) at bounded
+
 -- the bytes of a source, each below 256
 module _ (s : List ℕ) (bytes : (i : ℕ) → getD s i 0 < 256) where
   -- a run by entries and by the test that they tell
@@ -281,20 +311,15 @@ module _ (s : List ℕ) (bytes : (i : ℕ) → getD s i 0 < 256) where
   pub digits-by : (at : ℕ) → run (hasEntry digitEntry digitEntry) (drop at s) ≡ digits (drop at s)
   digits-by at = run-by digitEntry digitEntry at isDigit entry-digit
 
-  -- where a word goes on, it ends before the bytes do, and so do digits
-  module _ (at : ℕ) (bounded : Bounded s at) (on : isWordByte (getD s at 0) ≡ true) where
-    pub bounded-next : Bounded s (at + 1)
-    bounded-next = rw (run-goes-on isWordByte s at (omega arith) on) at bounded
+  -- where the bytes of a word end before the bytes do, so do those that have their entries, and digits
+  module _ (at : ℕ) (bounded : Bounded s at) where
+    pub word-bounded : at + run (hasEntry digitEntry lastEntry) (drop at s) < length s
+    word-bounded = rw (run-by digitEntry lastEntry at isWordByte entry-word) bounded
 
-    pub word-bounded : at + 1 + run (hasEntry digitEntry lastEntry) (drop (at + 1) s) < length s
-    word-bounded = rw (run-by digitEntry lastEntry (at + 1) isWordByte entry-word) bounded-next
-
-    pub digits-bounded : at + 1 + run (hasEntry digitEntry digitEntry) (drop (at + 1) s) < length s
-    unfolding isWordByte
+    pub digits-bounded : at + run (hasEntry digitEntry digitEntry) (drop at s) < length s
     digits-bounded =
-        let less = run-narrow isDigit isWordByte (λ b h. or-right (isLetter b) (isDigit b) h) (drop (at + 1) s) in
-        let next = bounded-next in
-        rw (digits-by (at + 1)) (omega arith)
+        let less = run-narrow isDigit isWordByte digit-on (drop at s) in
+        rw (digits-by at) (omega arith)
 
   -- a run by entries from the next place on, where its first byte stands
   module _ (at : ℕ) (inside : at < length s) where

@@ -18,7 +18,7 @@ use Rattle.lexer.specs.internal.Kinds.{ident, int, float, lastKind}
 use Rattle.lexer.specs.internal.Packed.{packing, packed}
 use Rattle.lexer.specs.declared.Lexeme.{Lexeme}
 use Rattle.lexer.specs.declared.Lexeme.the-variants.{End, Skipped, Token, BadByte, OpenString}
-use Rattle.lexer.proofs.Laws.Entries.{entry-within, entry-below, entry-last, run-inside, word-from}
+use Rattle.lexer.proofs.Laws.Entries.{entry-within, entry-below, entry-last, word-bounded, word-from}
 use Rattle.lexer.proofs.Laws.Numbers.{whole-number, float-number}
 use Rattle.lexer.proofs.Laws.Runs.{run-goes-on, run-ends}
 use Rattle.lexer.proofs.Laws.Sizes.{Proper, spelled, of-token, of-skip, proper-unsigned, proper}
@@ -173,7 +173,7 @@ module _ (s : List ℕ) (bytes : (i : ℕ) → getD s i 0 < 256) (at : ℕ) (let
         (entry-within digitEntry lastEntry _ _ refl more (entry-last _ (bytes (at + 1))))
 
     pub word-inside : at + 1 + 1 + run (hasEntry digitEntry lastEntry) (drop (at + 1 + 1) s) < length s
-    word-inside = rw going at (run-inside s (at + 1) next digitEntry lastEntry (omega arith) (omega arith))
+    word-inside = rw going at (word-bounded s bytes (at + 1) next)
 
     pub long-ident : (end : ℕ) → end ≡ at + 1 + 1 + run (hasEntry digitEntry lastEntry) (drop (at + 1 + 1) s) → IdentEnds s at end
     long-ident end ends =

@@ -11,7 +11,7 @@ use borrow.Author.Needs.{needs}
 use Rattle.lexer.specs.Bytes.{isLetter}
 use Rattle.lexer.specs.Words.{wordKind}
 use Rattle.lexer.specs.internal.Entries.{letterEntry, byteEntry, Bounded}
-use Rattle.lexer.proofs.Laws.Entries.{letter-there, letter-kind, bounded-next}
+use Rattle.lexer.proofs.Laws.Entries.{letter-there, letter-kind, letter-on, bounded-next}
 use Rattle.lexer.proofs.Laws.Packed.{IdentEnds, ident-packed, word-inside, long-ident, letter-ident, letter-packed}
 use Rattle.lexer.proofs.packed.packed_word.Statement.{statement}
 use Rattle.lexer.proofs.packed.packed_word.Tie as tie
@@ -40,7 +40,7 @@ module _ (c : tie.After-shared-slice-known) where
   kind-told = rw first at (letter-kind _ (bytes at) entered)
 
   next : Bounded source (at + 1)
-  next = bounded-next source at (c .before .pre .1 .0) (bytes at) (let e = entered in omega arith)
+  next = bounded-next source at (c .before .pre .1 .0) (letter-on _ letter)
 
 -- an IDENT ends where the two branches meet
 ident-there : (c : tie.Joined1) → let start = c .before .before .before in IdentEnds (source start) (at start) (c .if1 .end)
@@ -63,11 +63,11 @@ shared-slice-read-entry-of c = let bounded = next (c .before) in omega arith
 entry-of-requires : tie.Need-entry-of-requires
 entry-of-requires c κs = search needs
 
-add-run-of : tie.Need-add-run-of
-add-run-of c = search needs
+add-bounded-end : tie.Need-add-bounded-end
+add-bounded-end c = search needs
 
-run-of-requires : tie.Need-run-of-requires
-run-of-requires c κs =
+bounded-end-requires : tie.Need-bounded-end-requires
+bounded-end-requires c κs =
     let start = c .before .before .before in
     let second = c .before .entry-of .ensures in (
       start .before .pre .0 .0,
@@ -104,8 +104,8 @@ packed-word-spec =
     add-next
     shared-slice-read-entry-of
     entry-of-requires
-    add-run-of
-    run-of-requires
+    add-bounded-end
+    bounded-end-requires
     sub-kind
     cast-kind
     pack-requires
