@@ -1,80 +1,156 @@
+-- `lexer::packed::packed_other` meets its contract: the entry of the first byte decides the rule. Assumes nothing.
+use Prim.Native.Nat.{ℕ, _≤_, _<_}
+use mathlib.Core.Path.{_≡_, _∙_, sym}
+use mathlib.Core.List.{List, [], _∷_}
+use native.Mathlib.Omega.{arith}
+use lib.ListN.{length, drop, getD}
 use borrow.Author.Needs.{needs}
+use Rattle.lexer.specs.Tests.{or, among}
+use Rattle.lexer.specs.Lexemes.{mark, lexeme}
+use Rattle.lexer.specs.internal.Editions.{editionOf}
+use Rattle.lexer.specs.internal.Entries.{otherEntry, slashEntry, backtickEntry, longerEntry, spaceEntry, minusEntry, digitEntry}
+use Rattle.lexer.specs.internal.Entries.{letterEntry, byteEntry, Bounded}
+use Rattle.lexer.proofs.Laws.Computed.{None, none, elsewhere}
+use Rattle.lexer.proofs.Laws.Editions.{fits}
+use Rattle.lexer.proofs.Laws.Entries.{space-there, digit-there, minus-there, slash-there, backtick-there}
+use Rattle.lexer.proofs.Laws.Entries.{space-lexeme, digit-lexeme, minus-lexeme, slash-lexeme, backtick-lexeme, longer-lexeme}
+use Rattle.lexer.proofs.Laws.Entries.{other-lexeme, bounded-next, run-inside}
+use Rattle.lexer.proofs.Laws.Packed.{packs, spaces-packed}
+use Rattle.lexer.proofs.Laws.Sizes.{proper}
 use Rattle.lexer.proofs.packed.packed_other.Statement.{statement}
 use Rattle.lexer.proofs.packed.packed_other.Tie as tie
-use Rattle.lexer.proofs.packed.packed_other.Reads as reads
-use Rattle.lexer.proofs.packed.packed_other.Lts as lts
-use Rattle.lexer.proofs.marks.mark_at.Reads as mark-at-reads
-use Rattle.lexer.proofs.packed.pack_lexeme.Reads as pack-lexeme-reads
-use Rattle.lexer.proofs.packed.packed_longer.Reads as packed-longer-reads
-use Rattle.lexer.proofs.packed.packed_minus.Reads as packed-minus-reads
-use Rattle.lexer.proofs.packed.packed_number.Reads as packed-number-reads
-use Rattle.lexer.proofs.packed.packed_slash.Reads as packed-slash-reads
-use Rattle.lexer.proofs.packed.packed_string.Reads as packed-string-reads
-use Rattle.lexer.proofs.packed.run_of.Reads as run-of-reads
 
--- src/packed.rt:184:51
+-- what is known where the lexeme begins
+module _ (c : tie.After-shared-slice-known) where
+  abbrev source : List ℕ
+  source = c .before .args .source .now
+
+  abbrev at : ℕ
+  at = c .before .args .at
+
+  abbrev entry : ℕ
+  entry = c .before .args .entry
+
+  bytes : (i : ℕ) → getD source i 0 < 256
+  bytes i = c .shared-slice-known .given i .fits
+
+  byte : getD source at 0 < 256
+  byte = bytes at
+
+  bounded : Bounded source at
+  bounded = c .before .pre .1 .0
+
+  inside : at < length source
+  inside = let b = bounded in omega arith
+
+  told : (k : ℕ) → entry ≡ k → byteEntry (getD source at 0) ≡ k
+  told k h = c .before .pre .1 .3 ∙ h
+
+-- the entries that have an arm, the last first; only one other is possible
+abbrev arms : List ℕ
+arms = longerEntry ∷ backtickEntry ∷ slashEntry ∷ minusEntry ∷ digitEntry ∷ spaceEntry ∷ []
+
+only-other : (n : ℕ) → otherEntry ≤ n → n < letterEntry → None arms n → otherEntry ≡ n
+unfolding among or
+only-other n above below rest = elsewhere (λ n. n) otherEntry (among arms) otherEntry 7 tt n above below (none arms n rest)
+
+-- .. and where no rule but that for marks fits
+marked : (c : tie.After-mark-at) → let start = c .before .before in
+    lexeme (editionOf (start .before .args .edition)) (drop (at start) (source start))
+    ≡ mark (editionOf (start .before .args .edition)) (drop (at start) (source start))
+marked c =
+    let start = c .before .before in
+    let pre = start .before .pre in
+    let is = only-other (entry start) (pre .1 .1) (pre .1 .2) (c .before .match .rest) in
+    other-lexeme _ _ _ (inside start) (byte start) (told start otherEntry (sym is))
+
 add-run-of : tie.Need-add-run-of
 add-run-of c = search needs
 
--- src/packed.rt:184:27
 run-of-requires : tie.Need-run-of-requires
-run-of-requires c κs = ?
+run-of-requires c κs =
+    let start = c .before in
+    let space = told start spaceEntry (c .match .keys1) in
+    let next = bounded-next _ _ (bounded start) (byte start) (rw space (omega arith)) in
+    (start .before .pre .0 .0, run-inside _ _ next spaceEntry spaceEntry (omega arith) (omega arith))
 
--- src/packed.rt:185:27
 packed-number-requires : tie.Need-packed-number-requires
-packed-number-requires c κs = ?
+packed-number-requires c κs =
+    let start = c .before in
+    (start .before .pre .0, (bounded start, digit-there _ (byte start) (told start digitEntry (c .match .keys2))))
 
--- src/packed.rt:186:27
 packed-minus-requires : tie.Need-packed-minus-requires
-packed-minus-requires c κs = ?
+packed-minus-requires c κs =
+    let start = c .before in
+    (start .before .pre .0, (bounded start, minus-there _ (byte start) (told start minusEntry (c .match .keys3))))
 
--- src/packed.rt:187:27
 packed-slash-requires : tie.Need-packed-slash-requires
-packed-slash-requires c κs = ?
+packed-slash-requires c κs =
+    let start = c .before in
+    (inside start, start .before .pre .0 .1, slash-there _ (byte start) (told start slashEntry (c .match .keys4)))
 
--- src/packed.rt:188:30
 packed-string-requires : tie.Need-packed-string-requires
-packed-string-requires c κs = ?
+packed-string-requires c κs =
+    let start = c .before in
+    (inside start, start .before .pre .0 .1, backtick-there _ (byte start) (told start backtickEntry (c .match .keys5)))
 
--- src/packed.rt:189:28
 packed-longer-requires : tie.Need-packed-longer-requires
-packed-longer-requires c κs = search needs
+packed-longer-requires c κs =
+    let start = c .before in
+    (inside start, start .before .pre .0 .1, told start longerEntry (c .match .keys6))
 
--- src/packed.rt:190:26
 mark-at-requires : tie.Need-mark-at-requires
 mark-at-requires c κs = search needs
 
--- src/packed.rt:190:14
 pack-lexeme-requires : tie.Need-pack-lexeme-requires
-pack-lexeme-requires c κs = ?
+pack-lexeme-requires c κs =
+    let start = c .before .before in
+    let args = start .before .args in
+    let e = editionOf (args .edition) in
+    let found = rw (marked c) at (proper e (fits (args .edition) .spells) (drop (at start) (source start))) in
+    let here = inside start in
+    rw (c .mark-at .ensures) (packs _ _ _ (omega arith) (start .before .pre .0 .1) found)
 
--- src/packed.rt:178:1
 returns : tie.Need-returns
-returns c = ?
+returns c =
+    let start = c .before .before in
+    let space = told start spaceEntry (c .before .match .keys1) in
+    let there = space-there _ (byte start) space in
+    rw (space-lexeme _ _ _ (inside start) (byte start) space, ← spaces-packed _ (bytes start) _ (inside start) there) (c .run-of .ensures)
 
--- src/packed.rt:178:1
 returns-2 : tie.Need-returns-2
-returns-2 c = ?
+returns-2 c =
+    let start = c .before .before in
+    let digit = told start digitEntry (c .before .match .keys2) in
+    rw (digit-lexeme _ _ _ (inside start) (byte start) digit) (c .packed-number .ensures)
 
--- src/packed.rt:178:1
 returns-3 : tie.Need-returns-3
-returns-3 c = ?
+returns-3 c =
+    let start = c .before .before in
+    let minus = told start minusEntry (c .before .match .keys3) in
+    rw (minus-lexeme _ _ _ (inside start) (byte start) minus) (c .packed-minus .ensures)
 
--- src/packed.rt:178:1
 returns-4 : tie.Need-returns-4
-returns-4 c = ?
+returns-4 c =
+    let start = c .before .before in
+    let slash = told start slashEntry (c .before .match .keys4) in
+    rw (slash-lexeme _ _ _ (inside start) (byte start) (fits (start .before .args .edition)) slash)
+    (c .packed-slash .ensures)
 
--- src/packed.rt:178:1
 returns-5 : tie.Need-returns-5
-returns-5 c = ?
+returns-5 c =
+    let start = c .before .before in
+    let backtick = told start backtickEntry (c .before .match .keys5) in
+    rw (backtick-lexeme _ _ _ (inside start) (byte start) backtick) (c .packed-string .ensures)
 
--- src/packed.rt:178:1
 returns-6 : tie.Need-returns-6
-returns-6 c = ?
+returns-6 c =
+    let start = c .before .before in
+    let longer = told start longerEntry (c .before .match .keys6) in
+    rw (longer-lexeme _ _ _ (inside start) (byte start) longer) (c .packed-longer .ensures)
 
--- src/packed.rt:178:1
 returns-7 : tie.Need-returns-7
-returns-7 c = ?
+returns-7 c = rw (marked (c .before), ← c .before .mark-at .ensures) (c .pack-lexeme .ensures)
 
 pub packed-other-spec : {M : Type 1} → statement M
 packed-other-spec =
