@@ -224,7 +224,7 @@ pub(crate) fn packed_lexeme(
     at: usize,
     bounded: bool,
 ) -> u64
-    requires { ⌜ Entries (now entries) × (length (now source) < packing) × (bounded ≡ true → Bounded (now source) at) ⌝ }
+    requires { ⌜ Entries (now entries) × (at ≤ length (now source)) × (length (now source) < packing) × (bounded ≡ true → Bounded (now source) at) ⌝ }
     ensures { λ r. ⌜ r ≡ packed at (lexeme (editionOf edition) (drop at (now (source .entry)))) ⌝ }
 {
     if bounded {

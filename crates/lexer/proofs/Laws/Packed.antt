@@ -6,19 +6,20 @@ use mathlib.Core.List.{List, [], _∷_}
 use native.Mathlib.Omega.{arith}
 use native.Mathlib.Nat.{add-zero, zero-div, zero-mod, div-eq-of-lt, mod-eq-of-lt, mul-add-div-right, mul-add-mod-self-right}
 use lib.ListN.{length, take, drop, getD, length-drop}
-use Rattle.lexer.specs.Bytes.{isLetter, run}
+use Rattle.lexer.specs.Bytes.{isSpace, isLetter, run}
 use Rattle.lexer.specs.Editions.{Edition}
 use Rattle.lexer.specs.Words.{wordLength, wordKind, joins}
 use Rattle.lexer.specs.Numbers.{digits, fraction, exponent}
-use Rattle.lexer.specs.Lexemes.{word, unsignedNumber, lexeme}
+use Rattle.lexer.specs.Lexemes.{spaces, word, unsignedNumber, lexeme}
 use Rattle.lexer.specs.executable.Scans.{lexemeSize}
 use Rattle.lexer.specs.Table.{sourceLimit}
-use Rattle.lexer.specs.internal.Entries.{digitEntry, lastEntry, byteEntry, hasEntry, Bounded}
+use Rattle.lexer.specs.internal.Entries.{spaceEntry, digitEntry, lastEntry, byteEntry, hasEntry, Bounded}
 use Rattle.lexer.specs.internal.Kinds.{ident, int, float, lastKind}
 use Rattle.lexer.specs.internal.Packed.{packing, packed}
 use Rattle.lexer.specs.declared.Lexeme.{Lexeme}
 use Rattle.lexer.specs.declared.Lexeme.the-variants.{End, Skipped, Token, BadByte, OpenString}
-use Rattle.lexer.proofs.Laws.Entries.{entry-within, entry-below, entry-last, word-bounded, word-from}
+use Rattle.lexer.proofs.Laws.Entries.{entry-within, entry-below, entry-last, word-bounded, spaces-from, word-from}
+use Rattle.lexer.proofs.Laws.Lexemes.{spaces-some}
 use Rattle.lexer.proofs.Laws.Numbers.{whole-number, float-number}
 use Rattle.lexer.proofs.Laws.Runs.{run-goes-on, run-ends}
 use Rattle.lexer.proofs.Laws.Sizes.{Proper, spelled, of-token, of-skip, proper-unsigned, proper}
@@ -142,6 +143,14 @@ packs s at (Token k n) inside short p =
     omega arith
 packs s at BadByte inside short p = omega arith
 packs s at OpenString inside short p = omega arith
+
+-- the spaces at a place where one stands
+pub spaces-packed : (s : List ℕ) (bytes : (i : ℕ) → getD s i 0 < 256) (at : ℕ) → at < length s → isSpace (getD s at 0) ≡ true
+    → at + 1 + run (hasEntry spaceEntry spaceEntry) (drop (at + 1) s) ≡ packed at (spaces (drop at s))
+unfolding packed
+spaces-packed s bytes at inside space =
+    let end = spaces-from s bytes at inside space in
+    rw (spaces-some (drop at s) (omega arith)) end
 
 -- a word at a place that is an IDENT, and where it ends
 pub record IdentEnds (s : List ℕ) (at end : ℕ) : Type 0 where

@@ -1,50 +1,66 @@
+-- `lexer::packed::packed_by_entry` meets its contract. Assumes nothing.
+use mathlib.Core.List.{List}
+use Prim.Native.Nat.{ℕ, _<_}
+use native.Mathlib.Omega.{arith}
+use lib.ListN.{length, getD}
 use borrow.Author.Needs.{needs}
+use Rattle.lexer.specs.internal.Packed.{packed}
+use Rattle.lexer.proofs.Laws.Editions.{fits}
+use Rattle.lexer.proofs.Laws.Entries.{letter-lexeme, alone-lexeme}
 use Rattle.lexer.proofs.packed.packed_by_entry.Statement.{statement}
 use Rattle.lexer.proofs.packed.packed_by_entry.Tie as tie
-use Rattle.lexer.proofs.packed.packed_by_entry.Reads as reads
-use Rattle.lexer.proofs.packed.packed_by_entry.Lts as lts
-use Rattle.lexer.proofs.entries.entry_of.Reads as entry-of-reads
-use Rattle.lexer.proofs.packed.pack.Reads as pack-reads
-use Rattle.lexer.proofs.packed.packed_other.Reads as packed-other-reads
-use Rattle.lexer.proofs.packed.packed_word.Reads as packed-word-reads
 
--- src/packed.rt:199:44
+-- what is known where the lexeme begins
+module _ (c : tie.After-shared-slice-known) where
+  abbrev source : List ℕ
+  source = c .before .args .source .now
+
+  abbrev at : ℕ
+  at = c .before .args .at
+
+  byte : getD source at 0 < 256
+  byte = c .shared-slice-known .given at .fits
+
+  inside : at < length source
+  inside = let bounded = c .before .pre .2 in omega arith
+
 shared-slice-read-entry-of : tie.Need-shared-slice-read-entry-of
 shared-slice-read-entry-of c = search needs
 
--- src/packed.rt:199:9
 entry-of-requires : tie.Need-entry-of-requires
 entry-of-requires c κs = search needs
 
--- src/packed.rt:201:9
 packed-word-requires : tie.Need-packed-word-requires
 packed-word-requires c κs = search needs
 
--- src/packed.rt:201:9
 returns : tie.Need-returns
-returns c = ?
+returns c =
+    let start = c .before .before .before .before in
+    let entry = c .before .before .entry-of .ensures in
+    let letter = rw entry at (c .before .if1 .taken) in
+    rw (letter-lexeme _ (source start) (at start) (inside start) (byte start) letter) (c .packed-word .ensures)
 
--- src/packed.rt:204:21
 cast-pack : tie.Need-cast-pack
 cast-pack c = search needs
 
--- src/packed.rt:204:35
 add-pack : tie.Need-add-pack
 add-pack c = search needs
 
--- src/packed.rt:204:9
 pack-requires : tie.Need-pack-requires
 pack-requires c κs = search needs
 
--- src/packed.rt:204:9
 returns-2 : tie.Need-returns-2
-returns-2 c = ?
+unfolding packed
+returns-2 c =
+    let start = c .before .before .before .before .before in
+    let entry = c .before .before .before .entry-of .ensures in
+    let fit = fits (start .before .args .edition) in
+    let alone = rw entry at (c .before .if2 .taken) in
+    rw (alone-lexeme _ (source start) (at start) (inside start) (byte start) fit alone, ← entry) (c .pack .ensures)
 
--- src/packed.rt:206:5
 packed-other-requires : tie.Need-packed-other-requires
 packed-other-requires c κs = search needs
 
--- src/packed.rt:195:1
 returns-3 : tie.Need-returns-3
 returns-3 c = search needs
 

@@ -1,6 +1,8 @@
 -- `lexer::packed::packed_longer` meets its contract: two bytes decide, and where they are no mark the first is one. Assumes nothing.
 use mathlib.Core.Path.{_∙_, sym}
+use Prim.Native.Nat.{_-_}
 use native.Mathlib.Omega.{arith}
+use lib.ListN.{getD}
 use borrow.Author.Needs.{needs}
 use Rattle.lexer.specs.internal.Entries.{longerEntry}
 use Rattle.lexer.proofs.Laws.Editions.{fits}

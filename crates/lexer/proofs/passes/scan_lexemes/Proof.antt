@@ -75,6 +75,7 @@ packed-lexeme-requires c κs =
     let short = start .pre .0 in
     let blanks = and (ltb (loop .at) (args .stop)) (eqb (getD (args .source .now) (loop .at) 0) blank) in (
       start .pre .1,
+      come c .inside,
       omega arith,
       λ below. rw (c .after-blank .ensures) (before-bounded (args .source .now) (args .stop) (loop .at) (start .pre .2) below blanks),
     )
