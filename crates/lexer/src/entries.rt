@@ -26,6 +26,7 @@ pub(crate) const LETTER: u8 = 128;
 pub(crate) const LAST: u8 = 255;
 
 pub(crate) const ENTRIES: [u8; 256] = [
+    // 0x00 on: control bytes
     122,
     122,
     122,
@@ -42,6 +43,7 @@ pub(crate) const ENTRIES: [u8; 256] = [
     125,
     122,
     122,
+    // 0x10 on: control bytes
     122,
     122,
     122,
@@ -58,6 +60,7 @@ pub(crate) const ENTRIES: [u8; 256] = [
     122,
     122,
     122,
+    // 0x20 on: the space, and marks up to `/`
     125,
     87,
     122,
@@ -74,6 +77,7 @@ pub(crate) const ENTRIES: [u8; 256] = [
     126,
     27,
     123,
+    // 0x30 on: `0` to `9`, and marks up to `?`
     127,
     127,
     127,
@@ -90,6 +94,7 @@ pub(crate) const ENTRIES: [u8; 256] = [
     78,
     98,
     90,
+    // 0x40 on: `@`, and `A` to `O`
     10,
     129,
     129,
@@ -106,6 +111,7 @@ pub(crate) const ENTRIES: [u8; 256] = [
     129,
     129,
     129,
+    // 0x50 on: `P` to `Z`, marks, and `_`
     129,
     129,
     129,
@@ -122,6 +128,7 @@ pub(crate) const ENTRIES: [u8; 256] = [
     22,
     24,
     129,
+    // 0x60 on: the backtick, and `a` to `o`
     124,
     129,
     130,
@@ -138,6 +145,7 @@ pub(crate) const ENTRIES: [u8; 256] = [
     129,
     129,
     129,
+    // 0x70 on: `p` to `z`, and marks up to `~`
     129,
     129,
     129,
@@ -154,6 +162,7 @@ pub(crate) const ENTRIES: [u8; 256] = [
     18,
     16,
     122,
+    // 0x80 on: bytes of no ASCII character
     122,
     122,
     122,
@@ -170,6 +179,7 @@ pub(crate) const ENTRIES: [u8; 256] = [
     122,
     122,
     122,
+    // 0x90 on: bytes of no ASCII character
     122,
     122,
     122,
@@ -186,6 +196,7 @@ pub(crate) const ENTRIES: [u8; 256] = [
     122,
     122,
     122,
+    // 0xA0 on: bytes of no ASCII character
     122,
     122,
     122,
@@ -202,6 +213,7 @@ pub(crate) const ENTRIES: [u8; 256] = [
     122,
     122,
     122,
+    // 0xB0 on: bytes of no ASCII character
     122,
     122,
     122,
@@ -218,6 +230,7 @@ pub(crate) const ENTRIES: [u8; 256] = [
     122,
     122,
     122,
+    // 0xC0 on: bytes of no ASCII character
     122,
     122,
     122,
@@ -234,6 +247,7 @@ pub(crate) const ENTRIES: [u8; 256] = [
     122,
     122,
     122,
+    // 0xD0 on: bytes of no ASCII character
     122,
     122,
     122,
@@ -250,6 +264,7 @@ pub(crate) const ENTRIES: [u8; 256] = [
     122,
     122,
     122,
+    // 0xE0 on: bytes of no ASCII character; 0xE2 begins `→`
     122,
     122,
     122,
@@ -266,6 +281,7 @@ pub(crate) const ENTRIES: [u8; 256] = [
     122,
     122,
     122,
+    // 0xF0 on: bytes of no ASCII character
     122,
     122,
     122,

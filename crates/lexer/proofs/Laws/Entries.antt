@@ -266,7 +266,8 @@ module _ (e : Edition) (s : List ℕ) (at : ℕ) (inside : at < length s) (byte 
     alone-lexeme h =
         let tests = alone-tests _ byte h in
         let told = mark-told _ _ (and-left _ _ tests) in
-        let longer : (c : ℕ) → kind17 (getD s at 0 ∷ c ∷ []) ≡ 0 = λ c. none-longer _ c (edition17 .marks) (and-right (isMark (getD s at 0) (byteEntry (getD s at 0))) _ tests) in
+        let alone = and-right (isMark (getD s at 0) (byteEntry (getD s at 0))) _ tests in
+        let longer : (c : ℕ) → kind17 (getD s at 0 ∷ c ∷ []) ≡ 0 = λ c. none-longer _ c (edition17 .marks) alone in
         longer-lexeme (omega arith)
         ∙ rw (front-one s at inside, one-enough e fit _ (drop (at + 1) s) (told .no-arrow) longer, told .is) (mark-found _ 1 BadByte (told .some))
 
