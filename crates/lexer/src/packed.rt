@@ -132,7 +132,7 @@ fn packed_number(source: &[u8], at: usize, whole: usize) -> u64
 fn packed_minus(edition: Edition, source: &[u8], entries: &[u8; 256], at: usize) -> u64
     requires { ⌜ Entries (now entries) × (length (now source) < packing) ⌝ }
     requires { ⌜ (at < length (now source)) × (getD (now source) at 0 ≡ 0x2D) ⌝ }
-    ensures { λ r. ⌜ let s = drop at (now (source .entry)) in r ≡ packed at (orElse (number (editionOf edition) s) (mark (editionOf edition) s)) ⌝ }
+    ensures { λ r. ⌜ (let s = drop at (now (source .entry)) in r ≡ packed at (orElse (number (editionOf edition) s) (mark (editionOf edition) s))) ⌝ }
 {
     let next = at + 1;
     if editions::is_signed(edition) {
