@@ -1,5 +1,5 @@
--- Examples of the papers about bytes and tokens, as one table: a source, its tokens up to its first fault, and how it ends. The
--- claim that `scan` gives what the table says, for each of its rows, is `examples-hold` in proofs/.
+-- Examples of the papers about bytes and tokens, as a table for each edition: a source, its tokens up to its first fault, and how it
+-- ends. The claim that `scan` gives what the table says, for each of its rows, is `examples-hold` and `examples-hold11` in proofs/.
 use Prim.Native.Nat.{ℕ}
 use Prim.Native.String.{String}
 use mathlib.Core.List.{List, [], _∷_}
@@ -61,4 +61,15 @@ tokenExamples =
     tokenExample "/ / //" (cleanly (tokenFrom "/" 0 1 ∷ tokenFrom "/" 2 1 ∷ [])) ∷
     tokenExample "a ,`" (faultAfter (tokenFrom "IDENT" 0 1 ∷ []) 3 2) ∷
     tokenExample "a `," (faultAfter (tokenFrom "IDENT" 0 1 ∷ []) 4 2) ∷
+    []
+
+-- Under 1.1 "`-5` is a mark and 5", and there is "no `<<` or `>>`". All else is as above.
+unfoldable pub tokenExamples11 : List TokenExample
+unfolding tokenExample
+tokenExamples11 =
+    tokenExample "a -4" (cleanly (tokenFrom "IDENT" 0 1 ∷ tokenFrom "-" 2 1 ∷ tokenFrom "INT" 3 1 ∷ [])) ∷
+    tokenExample "<<=" (cleanly (tokenFrom "<" 0 1 ∷ tokenFrom "<=" 1 2 ∷ [])) ∷
+    tokenExample ">>" (cleanly (tokenFrom ">" 0 1 ∷ tokenFrom ">" 1 1 ∷ [])) ∷
+    tokenExample "1.5e-3" (cleanly (tokenFrom "FLOAT" 0 6 ∷ [])) ∷
+    tokenExample "??" (cleanly (tokenFrom "??" 0 2 ∷ [])) ∷
     []

@@ -18,7 +18,7 @@ ghost use lib.Seq.{sets};
 ghost use Rattle.lexer.specs.Tests.{and, pick};
 ghost use Rattle.lexer.specs.Lexemes.{lexeme};
 ghost use Rattle.lexer.specs.Table.{sourceLimit, tokenWidth, tokenRoom, kept};
-ghost use Rattle.lexer.specs.executable.Scans.{Scan, scan};
+ghost use Rattle.lexer.specs.executable.Scans.{scan};
 ghost use Rattle.lexer.specs.internal.Leaves.{blank, rowNumbers};
 ghost use Rattle.lexer.specs.internal.Editions.{editionOf};
 ghost use Rattle.lexer.specs.internal.Entries.{Entries, Stop};

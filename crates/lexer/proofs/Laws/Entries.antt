@@ -1,7 +1,7 @@
 -- What the entry of a byte tells of the byte, each by one computed test over all bytes; which lexeme begins with it; and how far the
 -- runs go that are told by entries. Assumes nothing.
 use Prim.Native.Char.{code}
-use Prim.Native.Nat.{ℕ, zero, suc, _+_, _-_, _<_, _≤_, zero-le, suc-le-suc}
+use Prim.Native.Nat.{ℕ, suc, _+_, _-_, _<_, _≤_, zero-le, suc-le-suc}
 use mathlib.Core.Path.{_≡_, refl, sym, _∙_}
 use mathlib.Core.Bool.{Bool, true, false, not}
 use mathlib.Core.List.{List, [], _∷_}
@@ -13,7 +13,7 @@ use borrow.Author.Tests.{le-leb, lt-leb, le-ltb, lt-ltb, eqb-true, eqb-false, eq
 use Rattle.lexer.specs.Tests.{and, or, pick, between, among}
 use Rattle.lexer.specs.Bytes.{isDigit, isLetter, isSpace, isWordByte, run}
 use Rattle.lexer.specs.Editions.{Edition, edition17}
-use Rattle.lexer.specs.Lexemes.{spaces, comment, word, unsignedNumber, number, text, markOf, markUpTo, mark, orElse, lexeme}
+use Rattle.lexer.specs.Lexemes.{spaces, comment, word, unsignedNumber, number, text, mark, orElse, lexeme}
 use Rattle.lexer.specs.declared.Lexeme.{Lexeme}
 use Rattle.lexer.specs.declared.Lexeme.the-variants.{Token, BadByte}
 use Rattle.lexer.specs.internal.Kinds.{slash}
@@ -75,15 +75,15 @@ entry-test : (low high : ℕ) (f : ℕ → Bool) → T (all (λ b. agree (hasEnt
     → (b : ℕ) → b < 256 → hasEntry low high b ≡ f b
 entry-test low high f t b h = agreed _ _ (all-at (λ b. agree (hasEntry low high b) (f b)) 256 t b h)
 
-pub entry-space : (b : ℕ) → b < 256 → hasEntry spaceEntry spaceEntry b ≡ isSpace b
+entry-space : (b : ℕ) → b < 256 → hasEntry spaceEntry spaceEntry b ≡ isSpace b
 unfolding opened
 entry-space = entry-test spaceEntry spaceEntry isSpace tt
 
-pub entry-digit : (b : ℕ) → b < 256 → hasEntry digitEntry digitEntry b ≡ isDigit b
+entry-digit : (b : ℕ) → b < 256 → hasEntry digitEntry digitEntry b ≡ isDigit b
 unfolding opened
 entry-digit = entry-test digitEntry digitEntry isDigit tt
 
-pub entry-letter : (b : ℕ) → b < 256 → hasEntry letterEntry lastEntry b ≡ isLetter b
+entry-letter : (b : ℕ) → b < 256 → hasEntry letterEntry lastEntry b ≡ isLetter b
 unfolding opened
 entry-letter = entry-test letterEntry lastEntry isLetter tt
 
@@ -132,12 +132,6 @@ module _ (b : ℕ) (byte : b < 256) where
   pub digit-there : byteEntry b ≡ digitEntry → isDigit b ≡ true
   unfolding between
   digit-there h = sym (entry-digit b byte) ∙ rw h
-
-  -- .. and the other way round
-  pub digit-told : isDigit b ≡ true → byteEntry b ≡ digitEntry
-  digit-told h =
-      let range = between-range digitEntry digitEntry (byteEntry b) (entry-digit b byte ∙ h) in
-      omega arith
 
   pub minus-there : byteEntry b ≡ minusEntry → b ≡ code "-"
   unfolding entryClass

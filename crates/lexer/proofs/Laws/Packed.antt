@@ -198,7 +198,7 @@ module _ (s : List ℕ) (bytes : (i : ℕ) → getD s i 0 < 256) (at : ℕ) (let
 
   -- .. and where it does not
   module _ (last : byteEntry (getD s (at + 1) 0) < digitEntry) where
-    pub one-letter : wordLength (drop at s) ≡ 1
+    one-letter : wordLength (drop at s) ≡ 1
     one-letter =
         let stops = run-ends (hasEntry digitEntry lastEntry) s (at + 1) (omega arith) (entry-below digitEntry lastEntry _ _ refl last) in
         rw stops at length-told

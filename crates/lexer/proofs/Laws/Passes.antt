@@ -1,5 +1,5 @@
 -- A pass over a source, lexeme by lexeme, for any edition whose marks are spelled: what holds on the way. Assumes nothing.
-use Prim.Native.Nat.{ℕ, zero, suc, _+_, _*_, _<_, _≤_}
+use Prim.Native.Nat.{ℕ, _+_, _*_, _<_, _≤_}
 use mathlib.Core.Path.{_≡_, refl, sym, _∙_, ap}
 use mathlib.Core.Bool.{Bool, true, false}
 use mathlib.Core.List.{List, [], _∷_, _++_, append-nil, append-assoc}
@@ -21,7 +21,6 @@ use Rattle.lexer.specs.internal.Leaves.{blank}
 use Rattle.lexer.specs.internal.Tokenized.{endedWith, scanned, endedBy}
 use Rattle.lexer.specs.declared.Lexeme.{Lexeme}
 use Rattle.lexer.specs.declared.Lexeme.the-variants.{End, Skipped, BadByte, OpenString}
-use Rattle.lexer.specs.declared.Scanned.{Scanned}
 use Rattle.lexer.proofs.Laws.Fronts.{front-one}
 use Rattle.lexer.proofs.Laws.Sizes.{spelled}
 use Rattle.lexer.proofs.Laws.Scans.{scanFrom, scan-from-start, scan-end, scan-skip, scan-token, scan-bad, scan-open}
@@ -70,7 +69,7 @@ module _ (e : Edition) (good : spelled (e .marks) ≡ true) (s before : List ℕ
 
   module _ (after : List ℕ) (at count : ℕ) (so-far : Passed e s before after at count) where
     -- a space
-    pub pass-space : at < length s → isSpace (getD s at 0) ≡ true → Passed e s before after (at + 1) count
+    pass-space : at < length s → isSpace (getD s at 0) ≡ true → Passed e s before after (at + 1) count
     unfolding scanFrom
     pass-space below space =
         let few = so-far .few in

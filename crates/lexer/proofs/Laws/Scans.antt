@@ -11,7 +11,7 @@ use Rattle.lexer.specs.Editions.{Edition}
 use Rattle.lexer.specs.Lexemes.{lexeme}
 use Rattle.lexer.specs.executable.Scans.{lexemeSize, follow, lexemesWithin, lexemes, located, scan, Scan, cleanly, faultAfter}
 use Rattle.lexer.specs.executable.Scans.{withToken}
-use Rattle.lexer.specs.Tokens.{Token, Ending, clean}
+use Rattle.lexer.specs.Tokens.{Token}
 use Rattle.lexer.specs.declared.Lexeme.{Lexeme}
 use Rattle.lexer.specs.declared.Lexeme.the-variants.{End, Skipped, BadByte, OpenString}
 use Rattle.lexer.proofs.Laws.Sizes.{Proper, of-token, of-skip, spelled, proper}
@@ -47,10 +47,6 @@ module _ (e : Edition) (good : spelled (e .marks) ≡ true) where
       lexemes-enough (length s) (suc (length s)) s (omega arith) (omega arith)
       ∙ follow-same (lexeme e s) (proper e good s) _ _
       (λ (h : 0 < lexemeSize (lexeme e s)). lexemes-enough (length s) (length (drop (lexemeSize (lexeme e s)) s)) _ (omega arith) (omega arith))
-
--- what ends clean is its tokens, cleanly
-pub cleanly-found : (x : Scan) → x .ending ≡ clean → x ≡ cleanly (x .found)
-cleanly-found x h = ap (λ (end : Ending). record { found = x .found; ending = end }) h
 
 -- the tokens of a scan are one list
 pub found-once : (x : Scan) (ts us : List Token) → x ≡ cleanly ts → x ≡ cleanly us → ts ≡ us

@@ -1,10 +1,10 @@
 -- `lexer::packed::packed_minus` meets its contract: where the edition says so, the number after the `-` takes it, and else it is a mark.
 -- Assumes nothing.
-use Prim.Native.Nat.{ℕ, _+_, _<_}
+use Prim.Native.Nat.{ℕ, _+_}
 use mathlib.Core.Path.{_≡_, sym, _∙_}
 use mathlib.Core.Logic.{⊎-elim}
 use native.Mathlib.Omega.{arith}
-use lib.ListN.{drop, getD}
+use lib.ListN.{drop}
 use borrow.Author.Needs.{needs}
 use Rattle.lexer.specs.Bytes.{run}
 use Rattle.lexer.specs.Numbers.{digits}

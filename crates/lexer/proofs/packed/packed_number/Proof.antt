@@ -1,5 +1,5 @@
 -- `lexer::packed::packed_number` meets its contract: after the digits a fraction, and then an exponent. Assumes nothing.
-use Prim.Native.Nat.{_+_, _<_}
+use Prim.Native.Nat.{_<_}
 use mathlib.Core.Path.{_∙_}
 use native.Mathlib.Omega.{arith}
 use lib.ListN.{length, drop, length-drop}

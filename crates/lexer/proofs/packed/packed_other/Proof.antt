@@ -14,7 +14,7 @@ use Rattle.lexer.specs.Lexemes.{mark, lexeme}
 use Rattle.lexer.specs.internal.Editions.{editionOf}
 use Rattle.lexer.specs.internal.Entries.{otherEntry, slashEntry, backtickEntry, spaceEntry, minusEntry, digitEntry}
 use Rattle.lexer.specs.internal.Entries.{letterEntry, byteEntry, Bounded}
-use Rattle.lexer.proofs.Laws.Computed.{all, all-at, None, none}
+use Rattle.lexer.proofs.Laws.Computed.{all-at, None, none}
 use Rattle.lexer.proofs.Laws.Classes.{agree, agreed}
 use Rattle.lexer.proofs.Laws.Editions.{fits}
 use Rattle.lexer.proofs.Laws.Entries.{space-there, digit-there, minus-there, slash-there, backtick-there}

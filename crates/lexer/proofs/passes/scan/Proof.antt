@@ -1,5 +1,4 @@
 -- `lexer::passes::scan` meets its contract: the table of bytes is the definition's, by computation. Assumes nothing.
-use mathlib.Core.Path.{_∙_}
 use borrow.Author.Needs.{needs}
 use Rattle.lexer.specs.Tests.{and, or, between, among}
 use Rattle.lexer.specs.Bytes.{isSpace, isDigit, isLetter}
@@ -15,10 +14,11 @@ unfolding byteEntry markEntry isSpace isDigit isLetter wordKind orIdent kindOf r
 last-stop-requires c κs = λ b below. entry byteEntry 256 b below
 
 scan-lexemes-requires : tie.Need-scan-lexemes-requires
-unfolding byteEntry markEntry isSpace isDigit isLetter wordKind orIdent kindOf reserved same spelledMarks and or between among
 scan-lexemes-requires c κs =
-    let pre = c .before .before .before .before .before .before .pre in
-    (pre, λ b below. entry byteEntry 256 b below, c .before .before .last-stop .ensures)
+    let at-entries = c .before .before .before in
+    let last-stop = c .before .before .last-stop in
+    let pre = at-entries .before .before .before .pre in
+    (pre, last-stop-requires at-entries (last-stop .lifetimes), last-stop .ensures)
 
 same-length : tie.Need-same-length
 same-length c = search needs

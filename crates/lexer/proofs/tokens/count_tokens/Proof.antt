@@ -1,5 +1,4 @@
 -- `lexer::tokens::count_tokens` meets its contract. Assumes nothing.
-use mathlib.Core.Path.{_∙_, sym}
 use borrow.Author.Needs.{needs}
 use borrow.Author.Tests.{lt-ltb, le-ltb}
 use Rattle.lexer.specs.internal.Tokenized.{counted, scannedValues}
