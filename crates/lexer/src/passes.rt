@@ -11,15 +11,14 @@ use crate::table;
 use crate::table::TokenRow;
 ghost use mathlib.Core.Path.{_≡_};
 ghost use mathlib.Core.Bool.{true};
-ghost use Prim.Native.Nat.{_+_, _*_, _≤_, _<_};
-ghost use lib.Dec.{eqb, ltb};
+ghost use Prim.Native.Nat.{_+_, _≤_, _<_};
+ghost use lib.Dec.{eqb};
 ghost use lib.ListN.{length, drop, getD};
-ghost use lib.Seq.{sets};
 ghost use Rattle.lexer.specs.Tests.{and, pick};
 ghost use Rattle.lexer.specs.Lexemes.{lexeme};
-ghost use Rattle.lexer.specs.Table.{sourceLimit, tokenWidth, tokenRoom, kept};
+ghost use Rattle.lexer.specs.Table.{sourceLimit, kept};
 ghost use Rattle.lexer.specs.executable.Scans.{scan};
-ghost use Rattle.lexer.specs.internal.Leaves.{blank, rowNumbers};
+ghost use Rattle.lexer.specs.internal.Leaves.{blank};
 ghost use Rattle.lexer.specs.internal.Editions.{editionOf};
 ghost use Rattle.lexer.specs.internal.Entries.{Entries, Stop};
 ghost use Rattle.lexer.specs.internal.Tokenized.{scanned, endedBy};
@@ -49,16 +48,6 @@ fn ended(edition: Edition, source: &[u8], at: usize, count: usize) -> Scanned
     }
 }
 
-// Writes a token's row where the table has it.
-fn put_where_room(table: &mut [u32], room: usize, row: usize, token: TokenRow)
-    requires { ⌜ room ≡ tokenRoom (now table) ⌝ }
-    ensures { λ r. ⌜ now (table .exit) ≡ pick (ltb row room) (sets (now (table .entry)) (row * tokenWidth) (rowNumbers token)) (now (table .entry)) ⌝ }
-{
-    if row < room {
-        table::put_token(table, row, token);
-    }
-}
-
 // The pass, lexeme by lexeme. A word that stands before or at `stop` ends before the source does.
 fn scan_lexemes(
     edition: Edition,
@@ -71,7 +60,6 @@ fn scan_lexemes(
     ensures { λ r. ⌜ r ≡ scanned (scan (editionOf edition) (now (source .entry))) ⌝ }
     ensures { λ r. ⌜ now (table .exit) ≡ kept (now (source .entry)) (scan (editionOf edition) (now (source .entry)) .found) (now (table .entry)) ⌝ }
 {
-    let room = table::room(table);
     let mut at = 0;
     let mut count = 0;
     loop {
@@ -87,7 +75,7 @@ fn scan_lexemes(
         } else {
             let start = from as u32;
             let size = (end - from) as u32;
-            put_where_room(table, room, count, TokenRow { kind, start, size });
+            table::put_token(table, count, TokenRow { kind, start, size });
             count += 1;
         }
         at = end;

@@ -1,11 +1,10 @@
 // The token table: the one place that knows how wide its rows are.
 ghost use mathlib.Core.Path.{_≡_};
-ghost use Prim.Native.Nat.{_+_, _*_, _≤_, _<_};
-ghost use lib.ListN.{length, getD};
-ghost use lib.Seq.{sets};
+ghost use Prim.Native.Nat.{_<_};
+ghost use lib.ListN.{getD};
 ghost use Rattle.lexer.specs.Table.{tokenWidth, tokenRoom};
 ghost use Rattle.lexer.specs.internal.TokenRows.{rowAt, kindAt, startAt, sizeAt};
-ghost use Rattle.lexer.specs.internal.Leaves.{rowNumbers, ownNumbers};
+ghost use Rattle.lexer.specs.internal.Leaves.{rowNumbers, ownNumbers, written};
 
 // How many numbers a row has.
 pub const WIDTH: usize = 3;
@@ -56,13 +55,15 @@ pub fn size_at(table: &[u32], row: usize) -> u32
     entry_at(table, row, 2)
 }
 
-// Writes a token's row.
+// Writes a token's row where the table has it, and nothing where it has not.
 pub fn put_token(table: &mut [u32], row: usize, token: TokenRow)
-    requires { ⌜ (row + 1) * tokenWidth ≤ length (now table) ⌝ }
-    ensures { λ r. ⌜ now (table .exit) ≡ sets (now (table .entry)) (row * tokenWidth) (rowNumbers token) ⌝ }
+    ensures { λ r. ⌜ now (table .exit) ≡ written (now (table .entry)) row (rowNumbers token) ⌝ }
 {
-    let at = row * WIDTH;
-    table[at] = token.kind;
-    table[at + 1] = token.start;
-    table[at + 2] = token.size;
+    let rows = table.len() / WIDTH;
+    if row < rows {
+        let at = row * WIDTH;
+        table[at] = token.kind;
+        table[at + 1] = token.start;
+        table[at + 2] = token.size;
+    }
 }

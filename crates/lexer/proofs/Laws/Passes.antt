@@ -17,7 +17,7 @@ use Rattle.lexer.specs.Lexemes.{lexeme}
 use Rattle.lexer.specs.Tokens.{Token}
 use Rattle.lexer.specs.Table.{tokenWidth, tokenRoom, tokenRow, kept}
 use Rattle.lexer.specs.executable.Scans.{Scan, withToken, scan}
-use Rattle.lexer.specs.internal.Leaves.{blank}
+use Rattle.lexer.specs.internal.Leaves.{blank, written}
 use Rattle.lexer.specs.internal.Tokenized.{endedWith, scanned, endedBy}
 use Rattle.lexer.specs.declared.Lexeme.{Lexeme}
 use Rattle.lexer.specs.declared.Lexeme.the-variants.{End, Skipped, BadByte, OpenString}
@@ -41,10 +41,6 @@ pub record Passed (e : Edition) (s before after : List ℕ) (at count : ℕ) : T
   pub few : count ≤ at
   pub rest : scan e s ≡ withTokens met (scanFrom e s at)
   pub rows : after ≡ kept s met before
-
--- a table after a row was written where there is room for it
-abbrev pub written : List ℕ → ℕ → List ℕ → List ℕ
-written table row numbers = pick (ltb row (tokenRoom table)) (sets table (row * tokenWidth) numbers) table
 
 module _ (s before : List ℕ) (met : List Token) (t : Token) where
   -- one token more

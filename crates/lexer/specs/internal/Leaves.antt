@@ -1,15 +1,17 @@
 -- The class of a byte, by which the tokeniser chooses a rule, the test that runs up to a byte, and the numbers of a row as they
 -- are written and read. Nothing but the tokeniser's own leaves speaks of these.
 use Prim.Native.Char.{code}
-use Prim.Native.Nat.{ℕ, _+_}
+use Prim.Native.Nat.{ℕ, _+_, _*_}
 use mathlib.Core.Path.{_≡_}
 use mathlib.Core.Bool.{Bool, not}
 use mathlib.Core.List.{List, [], _∷_}
-use lib.Dec.{eqb}
+use lib.Dec.{eqb, ltb}
 use lib.ListN.{drop}
+use lib.Seq.{sets}
 use Rattle.lexer.specs.Tests.{pick}
 use Rattle.lexer.specs.Bytes.{isDigit, isLetter, isSpace, run}
 use Rattle.lexer.specs.Tokens.{Token}
+use Rattle.lexer.specs.Table.{tokenWidth, tokenRoom}
 use Rattle.lexer.specs.declared.table.TokenRow.{TokenRow}
 
 -- the class of a byte by what a lexeme that begins with it is: 0 a number, 1 a word, 2 spaces, 3 a number or a mark, 4 a
@@ -46,3 +48,7 @@ rowNumbers r = r .kind ∷ r .start ∷ r .size ∷ []
 -- what a token says itself, column by column of its row
 abbrev pub ownNumbers : Token → List ℕ
 ownNumbers t = t .kind ∷ t .start ∷ t .size ∷ []
+
+-- a table after a row's numbers were written where it has the row
+abbrev pub written : List ℕ → ℕ → List ℕ → List ℕ
+written table row numbers = pick (ltb row (tokenRoom table)) (sets table (row * tokenWidth) numbers) table

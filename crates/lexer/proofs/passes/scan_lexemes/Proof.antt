@@ -14,23 +14,22 @@ use Rattle.lexer.specs.Tests.{and, pick}
 use Rattle.lexer.specs.Editions.{Edition}
 use Rattle.lexer.specs.Lexemes.{lexeme}
 use Rattle.lexer.specs.internal.Editions.{editionOf}
-use Rattle.lexer.specs.Table.{tokenRoom}
 use Rattle.lexer.specs.internal.Leaves.{blank}
 use Rattle.lexer.specs.internal.Entries.{Bounded, Stop}
 use Rattle.lexer.specs.internal.Packed.{packing}
 use Rattle.lexer.proofs.Laws.Sizes.{spelled}
 use Rattle.lexer.proofs.Laws.Editions.{fits}
 use Rattle.lexer.proofs.Laws.Packed.{TokenTold, SkipTold, Ends, unpack-token, unpack-skip, unpack-none}
-use Rattle.lexer.proofs.Laws.Rows.{kept-length, kept-room, row-written}
+use Rattle.lexer.proofs.Laws.Rows.{kept-length, row-written}
 use Rattle.lexer.proofs.Laws.Passes.{Passed, pass-start, pass-blank, pass-skip, pass-token, pass-ended}
 use Rattle.lexer.proofs.passes.scan_lexemes.Statement.{statement}
 use Rattle.lexer.proofs.passes.scan_lexemes.Tie as tie
 
 abbrev Inv-loop : tie.InvT-loop
-Inv-loop edition source entries stop table₀ room at₀ count₀ table at count = Passed (editionOf edition) source table₀ table at count
+Inv-loop edition source entries stop table₀ at₀ count₀ table at count = Passed (editionOf edition) source table₀ table at count
 
 abbrev μ-loop : tie.MeasureT-loop
-μ-loop edition source entries stop table₀ room at₀ count₀ table at count = length source - at
+μ-loop edition source entries stop table₀ at₀ count₀ table at count = length source - at
 
 -- a place before a stop is inside, and runs from it or from the next end inside
 module _ (s : List ℕ) (stop at : ℕ) (stops : Stop s stop) (below : ltb at stop ≡ true) where
@@ -41,26 +40,23 @@ module _ (s : List ℕ) (stop at : ℕ) (stops : Stop s stop) (below : ltb at st
   before-bounded true = stops at (ltb-true _ _ below) .1
   before-bounded false = rw (add-zero at) (stops at (ltb-true _ _ below) .0)
 
-room-requires : tie.Need-room-requires Inv-loop μ-loop
-room-requires c κs = search needs
-
 loop-holds : tie.Need-loop-holds Inv-loop μ-loop
 loop-holds c =
-    let args = c .before .before .before .before .args in
+    let args = c .before .before .args in
     pass-start _ (fits (args .edition) .spells) (args .source .now) _
 
 after-blank-requires : tie.Need-after-blank-requires Inv-loop μ-loop
 after-blank-requires c κs =
-    let args = c .before .before .before .before .before .args in
-    let stops = c .before .before .before .before .before .pre .2 in
+    let args = c .before .before .before .args in
+    let stops = c .before .before .before .pre .2 in
     before-inside (args .source .now) (args .stop) (c .loop .at) stops
 
 -- the place from which the next lexeme is looked for has been come to
-come : (c : tie.After-after-blank Inv-loop μ-loop) → let args = c .before .before .before .before .before .before .args in
+come : (c : tie.After-after-blank Inv-loop μ-loop) → let args = c .before .before .before .before .args in
     let loop = c .before .loop in
     Passed (editionOf (args .edition)) (args .source .now) (args .table .now) (loop .table) (c .after-blank .result) (loop .count)
 come c =
-    let start = c .before .before .before .before .before .before in
+    let start = c .before .before .before .before in
     let args = start .args in
     let loop = c .before .loop in
     let inside = before-inside (args .source .now) (args .stop) (loop .at) (start .pre .2) in
@@ -69,7 +65,7 @@ come c =
 
 packed-lexeme-requires : tie.Need-packed-lexeme-requires Inv-loop μ-loop
 packed-lexeme-requires c κs =
-    let start = c .before .before .before .before .before .before in
+    let start = c .before .before .before .before in
     let args = start .args in
     let loop = c .before .loop in
     let short = start .pre .0 in
@@ -92,27 +88,27 @@ module _ (c : tie.After-packed-lexeme Inv-loop μ-loop) where
   from = c .before .after-blank .result
 
   abbrev bytes : List ℕ
-  bytes = c .before .before .before .before .before .before .before .args .source .now
+  bytes = c .before .before .before .before .before .args .source .now
 
   abbrev rules : Edition
-  rules = editionOf (c .before .before .before .before .before .before .before .args .edition)
+  rules = editionOf (c .before .before .before .before .before .args .edition)
 
   good : spelled (rules .marks) ≡ true
-  good = fits (c .before .before .before .before .before .before .before .args .edition) .spells
+  good = fits (c .before .before .before .before .before .args .edition) .spells
 
   token : (found / packing ≡ 0 → ⊥) → TokenTold bytes from found (lexeme rules (drop from bytes))
   token =
-      let start = c .before .before .before .before .before .before .before in
+      let start = c .before .before .before .before .before in
       unpack-token rules good bytes from found (come (c .before) .inside) (start .pre .0) (c .packed-lexeme .ensures)
 
   skip : found / packing ≡ 0 → (found % packing ≡ 0 → ⊥) → SkipTold bytes from found (lexeme rules (drop from bytes))
   skip =
-      let start = c .before .before .before .before .before .before .before in
+      let start = c .before .before .before .before .before in
       unpack-skip rules good bytes from found (come (c .before) .inside) (start .pre .0) (c .packed-lexeme .ensures)
 
   none : found / packing ≡ 0 → found % packing ≡ 0 → Ends (lexeme rules (drop from bytes))
   none =
-      let start = c .before .before .before .before .before .before .before in
+      let start = c .before .before .before .before .before in
       unpack-none rules good bytes from found (come (c .before) .inside) (start .pre .0) (c .packed-lexeme .ensures)
 
 ended-requires : tie.Need-ended-requires Inv-loop μ-loop
@@ -134,7 +130,7 @@ returns c =
 
 cast-start : tie.Need-cast-start Inv-loop μ-loop
 cast-start c =
-    let short = c .before .before .before .before .before .before .before .before .pre .0 in
+    let short = c .before .before .before .before .before .before .pre .0 in
     let inside = come (c .before .before) .inside in
     search needs
 
@@ -143,19 +139,16 @@ sub-size c = let after = token (c .before) (c .if1 .left) .after in omega arith
 
 cast-size : tie.Need-cast-size Inv-loop μ-loop
 cast-size c =
-    let short = c .before .before .before .before .before .before .before .before .pre .0 in
+    let short = c .before .before .before .before .before .before .pre .0 in
     let within = token (c .before) (c .if1 .left) .within in
     search needs
 
-put-where-room-requires : tie.Need-put-where-room-requires Inv-loop μ-loop
-put-where-room-requires c κs =
-    let room = c .before .before .before .before .before .room in
-    let so-far = c .before .before .before .before .loop .inv in
-    room .ensures ∙ rw (so-far .rows) (sym (kept-room _ (so-far .met) _))
+put-token-requires : tie.Need-put-token-requires Inv-loop μ-loop
+put-token-requires c κs = search needs
 
 add-count : tie.Need-add-count Inv-loop μ-loop
 add-count c =
-    let short = c .before .before .before .before .before .before .before .before .before .before .before .before .pre .0 in
+    let short = c .before .before .before .before .before .before .before .before .before .before .pre .0 in
     let so-far = c .before .before .before .before .before .before .before .loop .inv in
     let inside = so-far .inside in
     let few = so-far .few in
@@ -200,13 +193,10 @@ loop-again-2 c =
     let after = told .after in
     let within = told .within in
     let end : from (at-packed) + (found (at-packed) % packing - from (at-packed)) ≡ found (at-packed) % packing = omega arith in
-    let put = c .before .before .put-where-room .ensures in
-    let room = c .before .before .before .before .before .before .before .before .room in
-    let same : room .result ≡ tokenRoom (loop .table) = room .ensures ∙ rw (loop .inv .rows) (sym (kept-room _ (loop .inv .met) _)) in
     let on =
     pass-token (rules (at-packed)) (good (at-packed)) _ _ _ _ (loop .count) (come (at-packed .before)) _ _ (omega arith) (rw end within) (told .is)
     _ (row-written (bytes (at-packed)) _ _ _) in
-    rw (put, same) (rw end at on)
+    rw (c .before .before .put-token .ensures) (rw end at on)
 
 pub scan-lexemes-spec : {M : Type 1} → statement M
 scan-lexemes-spec =
@@ -214,7 +204,6 @@ scan-lexemes-spec =
     (tie.spec
     Inv-loop
     μ-loop
-    room-requires
     loop-holds
     after-blank-requires
     packed-lexeme-requires
@@ -225,7 +214,7 @@ scan-lexemes-spec =
     cast-start
     sub-size
     cast-size
-    put-where-room-requires
+    put-token-requires
     add-count
     loop-less
     loop-again

@@ -3,6 +3,7 @@ use lib.ListN.{length-set}
 use native.Mathlib.Numerals.{add-one, add-two}
 use native.Mathlib.Omega.{arith}
 use borrow.Author.Needs.{needs}
+use borrow.Author.Tests.{lt-ltb, le-ltb}
 use Rattle.lexer.proofs.table.put_token.Statement.{statement}
 use Rattle.lexer.proofs.table.put_token.Tie as tie
 
@@ -37,7 +38,10 @@ same-length : tie.Need-same-length
 same-length c = search needs
 
 returns : tie.Need-returns
-returns c = rw (add-one, add-two)
+returns c = rw (lt-ltb _ _ (c .if1 .taken), add-one, add-two)
+
+returns-2 : tie.Need-returns-2
+returns-2 c = rw (le-ltb _ _ (c .if1 .left))
 
 pub put-token-spec : {M : Type 1} → statement M
 put-token-spec =
@@ -53,4 +57,5 @@ put-token-spec =
     mul-table-3
     slice-write-table-3
     same-length
-    returns)
+    returns
+    returns-2)
