@@ -15,7 +15,6 @@ mod text;
 mod tokens;
 mod words;
 
-pub use bytes::class_of;
 pub use lexemes::lexeme_at;
 pub use numbers::exponent_end;
 pub use numbers::fraction_end;
