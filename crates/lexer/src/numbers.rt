@@ -5,10 +5,10 @@ use crate::bytes;
 use crate::kinds;
 use crate::runs;
 ghost use mathlib.Core.Path.{_≡_};
-ghost use Prim.Native.Nat.{_+_};
-ghost use lib.ListN.{drop};
+ghost use Prim.Native.Nat.{_+_, _-_, _≤_, _<_};
+ghost use lib.ListN.{length, drop};
 ghost use Rattle.lexer.specs.Numbers.{fraction, sign, exponent};
-ghost use Rattle.lexer.specs.Lexemes.{unsignedNumber};
+ghost use Rattle.lexer.specs.Lexemes.{numberOf};
 
 // Where the point and digits at `at` end, or `at` where not all of that is there.
 pub fn fraction_end(source: &[u8], at: usize) -> usize
@@ -48,14 +48,11 @@ pub fn exponent_end(source: &[u8], at: usize) -> usize
     at
 }
 
-// The number without a minus at `at`.
-pub fn unsigned_at(source: &[u8], at: usize) -> Lexeme
-    ensures { λ r. ⌜ r ≡ unsignedNumber (drop at (now (source .entry))) ⌝ }
+// The number at `at`, whose digits, with a minus or without, end at `whole`.
+pub(crate) fn number_from(source: &[u8], at: usize, whole: usize) -> Lexeme
+    requires { ⌜ (at < whole) × (whole ≤ length (now source)) ⌝ }
+    ensures { λ r. ⌜ r ≡ numberOf (whole - at) (fraction (drop whole (now (source .entry)))) (drop at (now (source .entry))) ⌝ }
 {
-    let whole = runs::run_end(source, at, Class::Digit);
-    if whole == at {
-        return Lexeme::BadByte;
-    }
     let point = fraction_end(source, whole);
     if point == whole {
         return Lexeme::Token(kinds::INT, whole - at);

@@ -1,26 +1,23 @@
 // The lexeme at a place, packed into one number: told by the table of bytes where a word would end before the source does, and else by
 // `lexeme_at`.
-use crate::Class;
 use crate::Edition;
 use crate::Lexeme;
 use crate::bytes;
-use crate::editions;
 use crate::entries;
 use crate::kinds;
 use crate::lexemes;
 use crate::marks;
 use crate::numbers;
-use crate::runs;
 use crate::words;
 ghost use mathlib.Core.Path.{_≡_};
 ghost use mathlib.Core.Bool.{true};
 ghost use Prim.Native.Nat.{_+_, _*_, _≤_, _<_};
 ghost use lib.ListN.{length, drop, getD};
-ghost use Rattle.lexer.specs.Bytes.{isDigit, run};
+ghost use Rattle.lexer.specs.Bytes.{run};
 ghost use Rattle.lexer.specs.Words.{joins};
-ghost use Rattle.lexer.specs.Lexemes.{comment, word, unsignedNumber, number, text, mark, orElse, lexeme};
+ghost use Rattle.lexer.specs.Lexemes.{word, mark, lexeme};
 ghost use Rattle.lexer.specs.executable.Scans.{lexemeSize};
-ghost use Rattle.lexer.specs.internal.Kinds.{ident, slash};
+ghost use Rattle.lexer.specs.internal.Kinds.{ident};
 ghost use Rattle.lexer.specs.internal.Editions.{editionOf};
 ghost use Rattle.lexer.specs.internal.Entries.{Entries, hasEntry, Bounded, byteEntry, letterEntry, longerEntry, otherEntry};
 ghost use Rattle.lexer.specs.internal.Packed.{packing, packed};
@@ -114,58 +111,6 @@ fn packed_word(source: &[u8], entries: &[u8; 256], at: usize, entry: u8) -> u64
     packed_ident(source, end)
 }
 
-// The number without a minus at `at`, whose digits end at `whole`.
-fn packed_number(source: &[u8], at: usize, whole: usize) -> u64
-    requires { ⌜ (length (now source) < packing) × (at < whole) × (whole ≡ at + run isDigit (drop at (now source))) ⌝ }
-    ensures { λ r. ⌜ r ≡ packed at (unsignedNumber (drop at (now (source .entry)))) ⌝ }
-{
-    let point = numbers::fraction_end(source, whole);
-    if point == whole {
-        return pack(kinds::INT, whole);
-    }
-    let end = numbers::exponent_end(source, point);
-    pack(kinds::FLOAT, end)
-}
-
-// The number or the mark at `at`, where a `-` stands.
-fn packed_minus(edition: Edition, source: &[u8], entries: &[u8; 256], at: usize) -> u64
-    requires { ⌜ Entries (now entries) × (length (now source) < packing) ⌝ }
-    requires { ⌜ (at < length (now source)) × (getD (now source) at 0 ≡ 0x2D) ⌝ }
-    ensures { λ r. ⌜ (let s = drop at (now (source .entry)) in r ≡ packed at (orElse (number (editionOf edition) s) (mark (editionOf edition) s))) ⌝ }
-{
-    let next = at + 1;
-    if editions::is_signed(edition) {
-        let whole = entry_end(source, entries, next, entries::DIGIT);
-        if next < whole {
-            return packed_number(source, next, whole);
-        }
-    }
-    pack(kinds::MINUS, next)
-}
-
-// The comment or the mark at `at`, where a `/` stands.
-fn packed_slash(source: &[u8], at: usize) -> u64
-    requires { ⌜ (at < length (now source)) × (length (now source) < packing) × (getD (now source) at 0 ≡ 0x2F) ⌝ }
-    ensures { λ r. ⌜ r ≡ packed at (orElse (comment (drop at (now (source .entry)))) (Lexeme.Token slash 1)) ⌝ }
-{
-    if bytes::begins_either(source, at + 1, b'/', b'/') {
-        return runs::run_end(source, at + 2, Class::Line) as u64;
-    }
-    pack(kinds::SLASH, at + 1)
-}
-
-// The string at `at`, where a backtick stands.
-fn packed_string(source: &[u8], at: usize) -> u64
-    requires { ⌜ (at < length (now source)) × (length (now source) < packing) × (getD (now source) at 0 ≡ 0x60) ⌝ }
-    ensures { λ r. ⌜ r ≡ packed at (text (drop at (now (source .entry)))) ⌝ }
-{
-    let end = runs::run_end(source, at + 1, Class::Text);
-    if end < source.len() {
-        return pack(kinds::STRING, end + 1);
-    }
-    0
-}
-
 // The mark at `at`, where a byte stands that is a mark and with which a longer one may begin.
 fn packed_longer(edition: Edition, source: &[u8], at: usize, entry: u8) -> u64
     requires { ⌜ (at < length (now source)) × (length (now source) < packing) ⌝ }
@@ -190,11 +135,14 @@ fn packed_other(edition: Edition, source: &[u8], entries: &[u8; 256], at: usize,
         entries::SPACE => entry_end(source, entries, at + 1, entries::SPACE) as u64,
         entries::DIGIT => {
             let whole = bounded_end(source, entries, at + 1, entries::DIGIT, entries::DIGIT);
-            packed_number(source, at, whole)
+            pack_lexeme(numbers::number_from(source, at, whole), at)
         }
-        entries::MINUS => packed_minus(edition, source, entries, at),
-        entries::SLASH => packed_slash(source, at),
-        entries::BACKTICK => packed_string(source, at),
+        entries::MINUS => {
+            let whole = entry_end(source, entries, at + 1, entries::DIGIT);
+            pack_lexeme(lexemes::minus_from(edition, source, at, whole), at)
+        }
+        entries::SLASH => pack_lexeme(lexemes::slash_at(source, at), at),
+        entries::BACKTICK => pack_lexeme(lexemes::string_at(source, at), at),
         entries::OTHER => pack_lexeme(marks::mark_at(edition, source, at), at),
         _ => packed_longer(edition, source, at, entry),
     }

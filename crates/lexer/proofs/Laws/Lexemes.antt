@@ -1,11 +1,11 @@
 -- Which rule gives the lexeme, by the class of the first byte. Assumes nothing.
 use Prim.Native.Char.{code}
-use Prim.Native.Nat.{ℕ, zero, suc, _+_, _<_, _≤_}
+use Prim.Native.Nat.{ℕ, zero, suc, _+_, _-_, _<_, _≤_}
 use mathlib.Core.Path.{_≡_, refl, sym, _∙_}
 use mathlib.Core.Bool.{Bool, true, false}
 use mathlib.Core.List.{List, _∷_}
 use native.Mathlib.Omega.{arith}
-use native.Mathlib.Nat.{add-assoc}
+use native.Mathlib.Nat.{add-assoc, suc-add}
 use lib.Dec.{eqb, ltb}
 use borrow.Author.Tests.{ne-eqb, lt-ltb, le-ltb}
 use lib.ListN.{length, drop, getD, length-drop}
@@ -15,6 +15,7 @@ use Rattle.lexer.specs.internal.Kinds.{ident, string, minus, slash}
 use Rattle.lexer.specs.Bytes.{isSpace, isDigit, isLetter, isInLine, isInString, run, beginsEither}
 use Rattle.lexer.specs.Spellings.{same, kindOf, spelledMarks}
 use Rattle.lexer.specs.Editions.{Edition}
+use Rattle.lexer.specs.Numbers.{digits, fraction}
 use Rattle.lexer.specs.Lexemes.{skippedSpaces, spaces, comment, wordOf, word, numberOf, unsignedNumber, withMinus, number, text}
 use Rattle.lexer.specs.Lexemes.{markOf, mark, orElse, lexeme}
 use Rattle.lexer.specs.internal.Leaves.{byteClass}
@@ -165,6 +166,13 @@ module _ (e : Edition) (fit : FitEdition e) (t : List ℕ) where
   unfolding and markOf kindOf same spelledMarks
   mark-slash = one-enough e fit (code "/") t (λ h. omega arith) (λ b. simp and-false)
 
+-- a number with one byte more in front
+with-minus : (b n f : ℕ) (t : List ℕ) (other : Lexeme) → 0 < n → numberOf (suc n) f (b ∷ t) ≡ orElse (withMinus (numberOf n f t)) other
+unfolding numberOf withMinus orElse
+with-minus b zero f t other h = absurd (omega arith)
+with-minus b (suc n) zero t other h = refl
+with-minus b (suc n) (suc f) t other h = rw (suc-add (suc n) (suc f), suc-add (suc n + suc f) _)
+
 -- what the rules give where their first byte stands
 spaces-of : (n : ℕ) → 0 < n → skippedSpaces n ≡ Skipped n
 unfolding skippedSpaces
@@ -220,7 +228,7 @@ module _ (s : List ℕ) (at : ℕ) (inside : at < length s) where
     minused = rw here at (front-one s at inside)
 
     -- a number takes the minus before it where the edition says so
-    pub minus-number : e .signed ≡ true → number e (drop at s) ≡ withMinus (unsignedNumber (drop (at + 1) s))
+    minus-number : e .signed ≡ true → number e (drop at s) ≡ withMinus (unsignedNumber (drop (at + 1) s))
     unfolding number beginsEither and or
     minus-number signed = rw (minused, signed)
 
@@ -228,6 +236,27 @@ module _ (s : List ℕ) (at : ℕ) (inside : at < length s) where
     pub minus-alone : e .signed ≡ false → number e (drop at s) ≡ BadByte
     unfolding number beginsEither isDigit between and or
     minus-alone plain = rw (minused, plain) (no-digits (code "-") (drop (at + 1) s) refl)
+
+    -- a number with the minus, where the digits after it end at `whole`
+    pub minus-digits : e .signed ≡ true → (whole : ℕ) → whole ≡ at + 1 + digits (drop (at + 1) s) → at + 1 < whole → (other : Lexeme)
+        → numberOf (whole - at) (fraction (drop whole s)) (drop at s) ≡ orElse (number e (drop at s)) other
+    unfolding unsignedNumber
+    minus-digits signed whole place after other =
+        let n = digits (drop (at + 1) s) in
+        let size : whole - at ≡ suc n = omega arith in
+        rw (minus-number signed, drop-drop n (at + 1) s, ← place, size, minused) (with-minus _ n _ _ other (omega arith))
+
+    -- .. and none where no digit follows
+    signed-none : digits (drop (at + 1) s) ≡ 0 → e .signed ≡ true → number e (drop at s) ≡ BadByte
+    unfolding unsignedNumber numberOf withMinus
+    signed-none none signed = rw (minus-number signed, none)
+
+    pub minus-none : digits (drop (at + 1) s) ≡ 0 → number e (drop at s) ≡ BadByte
+    minus-none none = by (e .signed) refl
+      where
+        by : (t : Bool) → e .signed ≡ t → number e (drop at s) ≡ BadByte
+        by true signed = signed-none none signed
+        by false plain = minus-alone plain
 
     -- it is a mark by itself in every edition
     pub minus-mark : FitEdition e → mark e (drop at s) ≡ Token minus 1

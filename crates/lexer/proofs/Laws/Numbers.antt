@@ -1,7 +1,7 @@
 -- Fractions, signs and exponents at a place of a list, as the tokeniser finds them. Assumes nothing.
 use Prim.Native.Char.{code}
-use Prim.Native.Nat.{ℕ, zero, suc, _+_, _<_}
-use mathlib.Core.Path.{_≡_, refl, sym}
+use Prim.Native.Nat.{ℕ, zero, suc, _+_, _-_, _<_}
+use mathlib.Core.Path.{_≡_, refl, sym, _∙_}
 use mathlib.Core.Bool.{true, false}
 use mathlib.Core.List.{List, [], _∷_}
 use native.Mathlib.Omega.{arith}
@@ -12,7 +12,7 @@ use Rattle.lexer.specs.Bytes.{beginsEither}
 use Rattle.lexer.specs.Numbers.{digits, withDigits, fraction, sign, exponent}
 use Rattle.lexer.specs.internal.Kinds.{int, float}
 use Rattle.lexer.specs.Lexemes.{numberOf, unsignedNumber}
-use Rattle.lexer.specs.declared.Lexeme.the-variants.{Token, BadByte}
+use Rattle.lexer.specs.declared.Lexeme.the-variants.{Token}
 use Rattle.lexer.proofs.Laws.Tests.{pick-same}
 
 with-some : (n d : ℕ) → 0 < d → withDigits n d ≡ n + d
@@ -96,23 +96,22 @@ module _ (s : List ℕ) (at : ℕ) where
   unfolding exponent from
   exponent-found h d = rw (h, drop-drop 1 at s, drop-drop, place, with-some (1 + sign (drop (at + 1) s)) (digits (drop from s)) d) (omega arith)
 
--- what the rule for numbers without a minus gives
-module _ (s : List ℕ) (at : ℕ) where
-  pub no-number : digits (drop at s) ≡ 0 → unsignedNumber (drop at s) ≡ BadByte
-  unfolding unsignedNumber numberOf
-  no-number h = rw h
+-- the number at a place whose digits, with a minus or without, end at `whole`
+module _ (s : List ℕ) (at whole : ℕ) (after : at < whole) where
+  pub int-from : fraction (drop whole s) ≡ 0 → numberOf (whole - at) (fraction (drop whole s)) (drop at s) ≡ Token int (whole - at)
+  int-from none = rw none (int-of (whole - at) (drop at s) (omega arith))
 
-  pub whole-number : 0 < digits (drop at s) → fraction (drop (at + digits (drop at s)) s) ≡ 0
-      → unsignedNumber (drop at s) ≡ Token int (digits (drop at s))
-  unfolding unsignedNumber
-  whole-number h f = rw (drop-drop, f) (int-of (digits (drop at s)) (drop at s) h)
+  pub float-from : (point end : ℕ) → point ≡ whole + fraction (drop whole s) → whole < point → end ≡ point + exponent (drop point s)
+      → numberOf (whole - at) (fraction (drop whole s)) (drop at s) ≡ Token float (end - at)
+  float-from point end fractional some ends =
+      let f = fraction (drop whole s) in
+      let place : at + (whole - at + f) ≡ point = omega arith in
+      let size : whole - at + f + exponent (drop point s) ≡ end - at = omega arith in
+      float-of (whole - at) f (drop at s) (omega arith) (omega arith) ∙ rw (drop-drop (whole - at + f) at s, place, size)
 
-  pub float-number : 0 < digits (drop at s) → 0 < fraction (drop (at + digits (drop at s)) s)
-      → unsignedNumber (drop at s)
-      ≡ Token float (digits (drop at s) + fraction (drop (at + digits (drop at s)) s)
-      + exponent (drop (at + digits (drop at s) + fraction (drop (at + digits (drop at s)) s)) s))
+  -- .. without one
+  pub unsigned-from : whole ≡ at + digits (drop at s) → numberOf (whole - at) (fraction (drop whole s)) (drop at s) ≡ unsignedNumber (drop at s)
   unfolding unsignedNumber
-  float-number h f =
-      let n = digits (drop at s) in
-      let m = fraction (drop (at + n) s) in
-      rw (drop-drop n at s, float-of n m (drop at s) h f, drop-drop (n + m) at s, ← add-assoc at n m)
+  unsigned-from place =
+      let size : whole - at ≡ digits (drop at s) = omega arith in
+      rw (size, drop-drop (digits (drop at s)) at s, ← place)

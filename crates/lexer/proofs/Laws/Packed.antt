@@ -9,20 +9,18 @@ use lib.ListN.{length, take, drop, getD, length-drop}
 use Rattle.lexer.specs.Bytes.{isSpace, isLetter, run}
 use Rattle.lexer.specs.Editions.{Edition}
 use Rattle.lexer.specs.Words.{wordLength, wordKind, joins}
-use Rattle.lexer.specs.Numbers.{digits, fraction, exponent}
-use Rattle.lexer.specs.Lexemes.{spaces, word, unsignedNumber, lexeme}
+use Rattle.lexer.specs.Lexemes.{spaces, word, lexeme}
 use Rattle.lexer.specs.executable.Scans.{lexemeSize}
 use Rattle.lexer.specs.Table.{sourceLimit}
 use Rattle.lexer.specs.internal.Entries.{spaceEntry, digitEntry, lastEntry, byteEntry, hasEntry, Bounded}
-use Rattle.lexer.specs.internal.Kinds.{ident, int, float, lastKind}
+use Rattle.lexer.specs.internal.Kinds.{ident, lastKind}
 use Rattle.lexer.specs.internal.Packed.{packing, packed}
 use Rattle.lexer.specs.declared.Lexeme.{Lexeme}
 use Rattle.lexer.specs.declared.Lexeme.the-variants.{End, Skipped, Token, BadByte, OpenString}
 use Rattle.lexer.proofs.Laws.Entries.{entry-within, entry-below, entry-last, word-bounded, spaces-from, word-from}
 use Rattle.lexer.proofs.Laws.Lexemes.{spaces-some}
-use Rattle.lexer.proofs.Laws.Numbers.{whole-number, float-number}
 use Rattle.lexer.proofs.Laws.Runs.{run-goes-on, run-ends}
-use Rattle.lexer.proofs.Laws.Sizes.{Proper, spelled, of-token, of-skip, proper-unsigned, proper}
+use Rattle.lexer.proofs.Laws.Sizes.{Proper, spelled, of-token, of-skip, proper}
 use Rattle.lexer.proofs.Laws.Words.{word-le, kind-other, kind-one-at, ident-word, letter-word}
 
 -- a kind and a place below `packing` come out of the number that they make
@@ -214,24 +212,3 @@ module _ (s : List ℕ) (bytes : (i : ℕ) → getD s i 0 < 256) (at : ℕ) (let
     pub letter-packed : (k : ℕ) → wordKind (getD s at 0 ∷ []) ≡ k → (k ≡ ident → ⊥) → k * packing + (at + 1) ≡ packed at (word (drop at s))
     unfolding packed
     letter-packed k is other = rw (letter-word s at one-letter (rw is other), is)
-
--- the number at a place whose digits end at `whole`
-module _ (s : List ℕ) (at whole : ℕ) (after : at < whole) (place : whole ≡ at + digits (drop at s)) where
-  pub int-packed : fraction (drop whole s) ≡ 0 → int * packing + whole ≡ packed at (unsignedNumber (drop at s))
-  unfolding packed
-  int-packed none = rw (whole-number s at (omega arith) (rw (← place) none)) (omega arith)
-
-  module _ (point end : ℕ) (fractional : point ≡ whole + fraction (drop whole s)) (some : whole < point)
-      (ends : end ≡ point + exponent (drop point s)) where
-    float-told : unsignedNumber (drop at s) ≡ Token float (digits (drop at s) + fraction (drop whole s) + exponent (drop point s))
-    float-told = rw (fractional, place) (float-number s at (omega arith) (rw (← place) (omega arith)))
-
-    pub float-packed : float * packing + end ≡ packed at (unsignedNumber (drop at s))
-    unfolding packed
-    float-packed = rw float-told (omega arith)
-
-    pub float-inside : at ≤ length s → end ≤ length s
-    float-inside inside =
-        let token = of-token (rw float-told at (proper-unsigned (drop at s))) in
-        let left = length-drop at s in
-        omega arith

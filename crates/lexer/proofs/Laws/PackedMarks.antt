@@ -1,6 +1,5 @@
--- Numbers after a minus and marks, packed into one number. Assumes nothing.
-use Prim.Native.Char.{code}
-use Prim.Native.Nat.{ℕ, zero, suc, _+_, _*_, _<_}
+-- Marks of one byte or two, packed into one number. Assumes nothing.
+use Prim.Native.Nat.{ℕ, _+_, _*_, _<_}
 use mathlib.Core.Path.{_≡_, refl}
 use mathlib.Core.Bool.{Bool, true, false}
 use mathlib.Core.List.{List, [], _∷_}
@@ -10,43 +9,12 @@ use lib.ListN.{length, drop, getD, List·getD-eq-default}
 use borrow.Author.Tests.{ltb-true, ltb-false}
 use Rattle.lexer.specs.Spellings.{kindOf}
 use Rattle.lexer.specs.Editions.{Edition}
-use Rattle.lexer.specs.Numbers.{digits}
-use Rattle.lexer.specs.Lexemes.{numberOf, unsignedNumber, withMinus, number, mark, orElse}
-use Rattle.lexer.specs.internal.Kinds.{minus}
+use Rattle.lexer.specs.Lexemes.{mark}
 use Rattle.lexer.specs.internal.Packed.{packing, packed}
-use Rattle.lexer.specs.declared.Lexeme.{Lexeme}
 use Rattle.lexer.specs.declared.Lexeme.the-variants.{BadByte}
 use Rattle.lexer.proofs.Laws.Editions.{FitEdition}
 use Rattle.lexer.proofs.Laws.Entries.{MarkTold}
 use Rattle.lexer.proofs.Laws.Marks.{mark-found, no-zero-second, two-found, two-lost, two-enough-at}
-use Rattle.lexer.proofs.Laws.Lexemes.{minus-number, minus-mark}
-
--- a number with a minus before it is packed as it is without one from the next place on
-packed-with-minus : (at n f : ℕ) (t : List ℕ) (other : Lexeme) → 0 < n
-    → packed (at + 1) (numberOf n f t) ≡ packed at (orElse (withMinus (numberOf n f t)) other)
-unfolding packed orElse withMinus numberOf
-packed-with-minus at zero f t other h = absurd (omega arith)
-packed-with-minus at (suc n) zero t other h = omega arith
-packed-with-minus at (suc n) (suc f) t other h = omega arith
-
--- a place where a minus stands
-module _ (s : List ℕ) (at : ℕ) (inside : at < length s) (here : getD s at 0 ≡ code "-") (e : Edition) where
-  -- a number begins with it where the edition says so and digits follow
-  pub packed-signed : e .signed ≡ true → 0 < digits (drop (at + 1) s)
-      → packed (at + 1) (unsignedNumber (drop (at + 1) s)) ≡ packed at (orElse (number e (drop at s)) (mark e (drop at s)))
-  unfolding unsignedNumber
-  packed-signed signed some = rw (minus-number s at inside here e signed) (packed-with-minus at _ _ _ _ some)
-
-  -- .. and none where no digit follows
-  pub minus-no-digit : e .signed ≡ true → digits (drop (at + 1) s) ≡ 0 → number e (drop at s) ≡ BadByte
-  unfolding unsignedNumber numberOf withMinus
-  minus-no-digit signed none = rw (minus-number s at inside here e signed, none)
-
-  -- where no number begins with it, it is a mark
-  pub packed-minus-mark : FitEdition e → number e (drop at s) ≡ BadByte
-      → minus * packing + (at + 1) ≡ packed at (orElse (number e (drop at s)) (mark e (drop at s)))
-  unfolding packed orElse
-  packed-minus-mark fit none = rw (none, minus-mark s at inside here e fit)
 
 -- a place where a byte stands that is a mark and with which a longer one may begin
 module _ (e : Edition) (fit : FitEdition e) (s : List ℕ) (at : ℕ) where

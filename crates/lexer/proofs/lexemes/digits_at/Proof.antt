@@ -1,40 +1,38 @@
--- `lexer::lexemes::digits_at` meets its contract: what is not a token here is not a number. Assumes nothing.
-use Prim.Native.Nat.{ℕ, zero, suc}
-use mathlib.Core.Path.{_≡_, _∙_, refl, sym}
-use mathlib.Core.List.{List, [], _∷_}
-use denote.Enum.Declared.{tagOf}
-use types.Run.{OneOf, miss}
+-- `lexer::lexemes::digits_at` meets its contract. Assumes nothing.
+use Prim.Native.Nat.{_<_}
+use mathlib.Core.Path.{_∙_}
+use native.Mathlib.Omega.{arith}
+use lib.ListN.{drop, length-drop}
 use borrow.Author.Needs.{needs}
-use Rattle.lexer.specs.Lexemes.{numberOf, unsignedNumber}
-use Rattle.lexer.specs.declared.Lexeme.the-variants.{BadByte}
-use Rattle.lexer.proofs.Lexeme.{the-type}
+use Rattle.lexer.specs.Bytes.{isDigit}
+use Rattle.lexer.proofs.Laws.Runs.{run-le, run-goes-on}
+use Rattle.lexer.proofs.Laws.Numbers.{unsigned-from}
 use Rattle.lexer.proofs.lexemes.digits_at.Statement.{statement}
 use Rattle.lexer.proofs.lexemes.digits_at.Tie as tie
 
--- the rule for numbers gives a token or nothing
-number-or-none : (n f : ℕ) (t : List ℕ) → OneOf (0 ∷ 1 ∷ 3 ∷ 4 ∷ []) (tagOf the-type (numberOf n f t)) → numberOf n f t ≡ BadByte
-unfolding numberOf
-number-or-none zero f t h = refl
-number-or-none (suc n) zero t h = absurd (miss (0 ∷ 1 ∷ 3 ∷ 4 ∷ []) 2 tt h)
-number-or-none (suc n) (suc f) t h = absurd (miss (0 ∷ 1 ∷ 3 ∷ 4 ∷ []) 2 tt h)
+-- the digits end after their first
+after : (c : tie.After-run-end) → c .before .before .args .at < c .run-end .result
+after c =
+    let args = c .before .before .args in
+    let pre = c .before .before .pre in
+    let on = run-goes-on isDigit (args .source .now) (args .at) (pre .0) (pre .1) in
+    let whole = c .run-end .ensures in
+    omega arith
 
-unsigned-at-requires : tie.Need-unsigned-at-requires
-unsigned-at-requires c κs = search needs
+run-end-requires : tie.Need-run-end-requires
+run-end-requires c κs = search needs
 
-enum-known-unsigned : tie.Need-enum-known-unsigned
-enum-known-unsigned c = search needs
+number-from-requires : tie.Need-number-from-requires
+number-from-requires c κs =
+    let args = c .before .before .args in
+    let digits = run-le isDigit (drop (args .at) (args .source .now)) in
+    let left = length-drop (args .at) (args .source .now) in
+    let whole = c .run-end .ensures in
+    let inside = c .before .before .pre .0 in
+    (after c, omega arith)
 
 returns : tie.Need-returns
-returns c =
-    let unsigned = c .before .unsigned in
-    let unsigned-at = c .before .before .before .unsigned-at in
-    sym (unsigned .given .1) ∙ unsigned-at .ensures
-
-returns-2 : tie.Need-returns-2
-unfolding unsignedNumber
-returns-2 c =
-    let unsigned-at = c .before .unsigned-at in
-    sym (number-or-none _ _ _ (rw (unsigned-at .ensures) at (c .match .keys2)))
+returns c = c .number-from .ensures ∙ unsigned-from _ _ _ (after (c .before)) (c .before .run-end .ensures)
 
 pub digits-at-spec : {M : Type 1} → statement M
-digits-at-spec = tie.close (tie.spec unsigned-at-requires enum-known-unsigned returns returns-2)
+digits-at-spec = tie.close (tie.spec run-end-requires number-from-requires returns)

@@ -5,13 +5,13 @@ use mathlib.Core.Bool.{true}
 use mathlib.Core.List.{List, _∷_}
 use lib.ListN.{length, drop, getD}
 use borrow.Author.Tests.{eqb-true, eq-eqb}
-use Rattle.lexer.specs.Bytes.{isSpace}
+use Rattle.lexer.specs.Bytes.{isDigit, isSpace}
 use Rattle.lexer.specs.Editions.{Edition}
 use Rattle.lexer.specs.internal.Editions.{editionOf}
 use Rattle.lexer.specs.Lexemes.{spaces, comment, word, unsignedNumber, number, text, mark, orElse, lexeme}
 use Rattle.lexer.specs.internal.Leaves.{byteClass}
 use Rattle.lexer.specs.declared.Lexeme.{Lexeme}
-use Rattle.lexer.proofs.Laws.Classes.{class-space, class-minus, class-slash, class-backtick}
+use Rattle.lexer.proofs.Laws.Classes.{class-digit, class-space, class-minus, class-slash, class-backtick}
 use Rattle.lexer.proofs.Laws.Fronts.{front-none, front-one}
 use Rattle.lexer.proofs.Laws.Editions.{fits}
 use Rattle.lexer.proofs.Laws.Lexemes.{lexeme-letter, lexeme-space, lexeme-digit, lexeme-minus, lexeme-slash, lexeme-backtick}
@@ -45,6 +45,9 @@ module _ (c : tie.After-class-of) where
 
   class-not : (k : ℕ) → (c .class-of .result ≡ k → ⊥) → byteClass first ≡ k → ⊥
   class-not k h e = h (c .class-of .ensures ∙ e)
+
+  digit-there : c .class-of .result ≡ 0 → isDigit first ≡ true
+  digit-there h = sym (class-digit _ byte) ∙ eq-eqb _ _ (class-is 0 h)
 
   space-there : c .class-of .result ≡ 2 → isSpace first ≡ true
   space-there h = sym (class-space _ byte) ∙ eq-eqb _ _ (class-is 2 h)
@@ -82,7 +85,7 @@ spaces-at-requires : tie.Need-spaces-at-requires
 spaces-at-requires c κs = (inside (c .before), space-there (c .before) (c .match .keys2))
 
 digits-at-requires : tie.Need-digits-at-requires
-digits-at-requires c κs = search needs
+digits-at-requires c κs = (inside (c .before), digit-there (c .before) (c .match .keys3))
 
 minus-at-requires : tie.Need-minus-at-requires
 minus-at-requires c κs = (inside (c .before), minus-there (c .before) (c .match .keys4))
