@@ -13,9 +13,9 @@ pub(crate) fn is_signed(edition: Edition) -> bool
     }
 }
 
-// Whether `<<` and `>>` are marks.
+// Whether `<<` is a mark, and so `>>`.
 pub(crate) fn has_shifts(edition: Edition) -> bool
-    ensures { λ r. ⌜ r ≡ hasShifts edition ⌝ }
+    ensures { λ r. ⌜ r ≡ hasShifts (editionOf edition) ⌝ }
 {
     match edition {
         Edition::V11 => false,

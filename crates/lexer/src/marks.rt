@@ -17,7 +17,7 @@ ghost use Rattle.lexer.specs.Lexemes.{markOf, mark};
 
 // A kind, or 0 where the edition has no shifts.
 fn shift_kind(edition: Edition, kind: u32) -> u32
-    ensures { λ r. ⌜ r ≡ pick (hasShifts edition) kind 0 ⌝ }
+    ensures { λ r. ⌜ r ≡ pick (hasShifts (editionOf edition)) kind 0 ⌝ }
 {
     if editions::has_shifts(edition) {
         return kind;

@@ -31,7 +31,7 @@ use Rattle.lexer.proofs.Laws.Fronts.{front-one}
 use Rattle.lexer.proofs.Laws.Marks.{mark-found, one-enough}
 use Rattle.lexer.proofs.Laws.Lexemes.{lexeme-letter, lexeme-space, lexeme-digit, lexeme-minus, lexeme-slash, lexeme-backtick}
 use Rattle.lexer.proofs.Laws.Lexemes.{lexeme-mark, string-first, slash-mark}
-use Rattle.lexer.proofs.Laws.Runs.{run-nil, run-pass, run-stop, run-goes-on}
+use Rattle.lexer.proofs.Laws.Runs.{run-goes-on, run-narrow, run-same}
 use Rattle.lexer.proofs.Laws.Words.{word-letter}
 
 -- an entry that is looked up, between two entries or not
@@ -264,23 +264,6 @@ module _ (e : Edition) (s : List ℕ) (at : ℕ) (inside : at < length s) (byte 
         let longer : (c : ℕ) → kind17 (getD s at 0 ∷ c ∷ []) ≡ 0 = λ c. none-longer _ c (edition17 .marks) alone in
         longer-lexeme (omega arith)
         ∙ rw (front-one s at inside, one-enough e fit _ (drop (at + 1) s) (told .no-arrow) longer, told .is) (mark-found _ 1 BadByte (told .some))
-
--- a test that passes wherever another does runs at least as far
-module _ (p q : ℕ → Bool) (wider : (b : ℕ) → p b ≡ true → q b ≡ true) where
-  run-narrow-by : (b : ℕ) (s : List ℕ) (t : Bool) → p b ≡ t → run p s ≤ run q s → run p (b ∷ s) ≤ run q (b ∷ s)
-  run-narrow-by b s true h below = rw (run-pass p b s h, run-pass q b s (wider b h)) (suc-le-suc below)
-  run-narrow-by b s false h below = rw (run-stop p b s h) zero-le
-
-  run-narrow : (s : List ℕ) → run p s ≤ run q s
-  run-narrow [] = rw (run-nil p) zero-le
-  run-narrow (b ∷ s) = run-narrow-by b s (p b) refl (run-narrow s)
-
--- two tests that agree at every byte run equally far
-module _ (p q : ℕ → Bool) (agreeing : (b : ℕ) → b < 256 → p b ≡ q b) where
-  run-same : (s : List ℕ) → ((i : ℕ) → getD s i 0 < 256) → run p s ≡ run q s
-  unfolding run
-  run-same [] bytes = refl
-  run-same (b ∷ s) bytes = rw (agreeing b (bytes 0), run-same s (λ i. bytes (suc i)))
 
 -- a word goes on over letters and digits
 pub letter-on : (b : ℕ) → isLetter b ≡ true → isWordByte b ≡ true

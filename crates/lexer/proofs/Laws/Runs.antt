@@ -32,6 +32,23 @@ pub run-le : (p : ℕ → Bool) (s : List ℕ) → run p s ≤ length s
 run-le p [] = rw run-nil zero-le
 run-le p (b ∷ s) = run-le-by p b s (p b) refl (run-le p s)
 
+-- a test that passes wherever another does runs at least as far
+module _ (p q : ℕ → Bool) (wider : (b : ℕ) → p b ≡ true → q b ≡ true) where
+  run-narrow-by : (b : ℕ) (s : List ℕ) (t : Bool) → p b ≡ t → run p s ≤ run q s → run p (b ∷ s) ≤ run q (b ∷ s)
+  run-narrow-by b s true h below = rw (run-pass p b s h, run-pass q b s (wider b h)) (suc-le-suc below)
+  run-narrow-by b s false h below = rw (run-stop p b s h) zero-le
+
+  pub run-narrow : (s : List ℕ) → run p s ≤ run q s
+  run-narrow [] = rw (run-nil p) zero-le
+  run-narrow (b ∷ s) = run-narrow-by b s (p b) refl (run-narrow s)
+
+-- two tests that agree at every byte run equally far
+module _ (p q : ℕ → Bool) (agreeing : (b : ℕ) → b < 256 → p b ≡ q b) where
+  pub run-same : (s : List ℕ) → ((i : ℕ) → getD s i 0 < 256) → run p s ≡ run q s
+  unfolding run
+  run-same [] bytes = refl
+  run-same (b ∷ s) bytes = rw (agreeing b (bytes 0), run-same s (λ i. bytes (suc i)))
+
 -- the same from a place on
 module _ (p : ℕ → Bool) (s : List ℕ) (i : ℕ) where
   pub run-past : length s ≤ i → run p (drop i s) ≡ 0

@@ -19,14 +19,15 @@ use Rattle.lexer.proofs.marks.pair_kind.Tie as tie
 
 -- the kind of two bytes is that of 1.7 where the edition has shifts, and else that of 1.1
 by-shifts : (edition : NamedEdition) (a b : ℕ)
-    → kindOf (editionOf edition .marks) (a ∷ b ∷ []) ≡ pick (hasShifts edition) (kind17 (a ∷ b ∷ [])) (kindOf (edition11 .marks) (a ∷ b ∷ []))
+    → kindOf (editionOf edition .marks) (a ∷ b ∷ []) ≡ pick (hasShifts (editionOf edition)) (kind17 (a ∷ b ∷ [])) (kindOf (edition11 .marks) (a ∷ b ∷ []))
+unfolding and same kindOf spelledMarks
 by-shifts V11 a b = refl
 by-shifts V17 a b = refl
 
 -- two bytes of the same kind in both
 in-both : (edition : NamedEdition) (a b k : ℕ) → kind17 (a ∷ b ∷ []) ≡ k → kindOf (edition11 .marks) (a ∷ b ∷ []) ≡ k
     → k ≡ kindOf (editionOf edition .marks) (a ∷ b ∷ [])
-in-both edition a b k p q = rw (by-shifts, p, q) (sym (pick-same (hasShifts edition) k))
+in-both edition a b k p q = rw (by-shifts, p, q) (sym (pick-same (hasShifts (editionOf edition)) k))
 
 returns : tie.Need-returns
 unfolding and same kindOf spelledMarks
