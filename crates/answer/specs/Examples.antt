@@ -3,7 +3,6 @@
 use Rattle.std.specs.Prelude.{ℕ, List, [], ◌∷◌, length, replicate}
 use Prim.Native.String.{String}
 use Rattle.lexer.specs.Text.{bytes}
-use Rattle.lexer.specs.Kinds.{token_kind}
 use Rattle.lexer.specs.Tokens.{Token}
 use Rattle.lexer.specs.Examples.{token_from}
 use Rattle.lexer.specs.Table.{filled}

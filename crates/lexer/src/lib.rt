@@ -1,4 +1,6 @@
 // From bytes to tokens: the tokeniser of NURL, proved to give exactly the tokens of the lexical rules in specs/.
+#![tactic(auto)]
+
 pub mod bytes;
 mod editions;
 mod entries;
@@ -26,7 +28,7 @@ pub use tokens::{SOURCE_LIMIT, count_tokens, tokenize};
 pub use words::{two_colons, word_at, word_end};
 
 // An edition of the grammar.
-#[derive(Drop)]
+#[derive(Clone, Copy)]
 pub enum Edition {
     // 1.1, document 008.
     V11,
@@ -35,14 +37,14 @@ pub enum Edition {
 }
 
 // Where a byte of a source stands: its line and its column, both counted from 1.
-#[derive(Drop)]
+#[derive(Clone, Copy)]
 pub struct Location {
     pub line: usize,
     pub column: usize,
 }
 
 // A class of bytes that a lexeme can go on over.
-#[derive(Drop)]
+#[derive(Clone, Copy)]
 pub enum Class {
     Space,
     Digit,
@@ -52,7 +54,7 @@ pub enum Class {
 }
 
 // What stands at a place of a source.
-#[derive(Drop)]
+#[derive(Clone, Copy)]
 pub enum Lexeme {
     // Nothing: the source ends here.
     End,
@@ -67,7 +69,7 @@ pub enum Lexeme {
 }
 
 // The answer of a pass over a whole source: the number of its tokens, or a refusal's number and place.
-#[derive(Drop)]
+#[derive(Clone, Copy)]
 pub enum Scanned {
     Tokens(usize),
     Refused(u32, usize),

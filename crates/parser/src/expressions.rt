@@ -17,7 +17,7 @@ use tree::row_kinds;
 use typenames::Scope;
 
 // An expression.
-#[cycle(aggregate_arm_arms_assignment_block_call_cast_defer_expression_expressions_let_statement_match_expression_operation_slice_statement_statements_tilde_statement_try_or_closure)]
+#[cycle(expression_readers)]
 pub(crate) fn expression(
     source: &[u8],
     prepared: &[u8],
@@ -92,7 +92,7 @@ fn operation_row(form: u8) -> u32
 }
 
 // A mark and so many expressions.
-#[cycle(aggregate_arm_arms_assignment_block_call_cast_defer_expression_expressions_let_statement_match_expression_operation_slice_statement_statements_tilde_statement_try_or_closure)]
+#[cycle(expression_readers)]
 fn operation(
     source: &[u8],
     prepared: &[u8],
@@ -123,7 +123,7 @@ fn operation(
 }
 
 // A try or a closure, by rule 7.
-#[cycle(aggregate_arm_arms_assignment_block_call_cast_defer_expression_expressions_let_statement_match_expression_operation_slice_statement_statements_tilde_statement_try_or_closure)]
+#[cycle(expression_readers)]
 fn try_or_closure(
     source: &[u8],
     prepared: &[u8],
@@ -166,7 +166,7 @@ fn size_of(tokens: &[u32], rows: &mut [u32], from: Step, left: usize) -> Step
 }
 
 // A call: a name, type arguments where there are some, and expressions.
-#[cycle(aggregate_arm_arms_assignment_block_call_cast_defer_expression_expressions_let_statement_match_expression_operation_slice_statement_statements_tilde_statement_try_or_closure)]
+#[cycle(expression_readers)]
 fn call(
     source: &[u8],
     prepared: &[u8],
@@ -192,7 +192,7 @@ fn call(
 }
 
 // A slice literal: a type and its elements in brackets.
-#[cycle(aggregate_arm_arms_assignment_block_call_cast_defer_expression_expressions_let_statement_match_expression_operation_slice_statement_statements_tilde_statement_try_or_closure)]
+#[cycle(expression_readers)]
 fn slice(
     source: &[u8],
     prepared: &[u8],
@@ -218,7 +218,7 @@ fn slice(
 }
 
 // An aggregate: a type and its elements in braces.
-#[cycle(aggregate_arm_arms_assignment_block_call_cast_defer_expression_expressions_let_statement_match_expression_operation_slice_statement_statements_tilde_statement_try_or_closure)]
+#[cycle(expression_readers)]
 fn aggregate(
     source: &[u8],
     prepared: &[u8],
@@ -273,7 +273,7 @@ fn selector(source: &[u8], tokens: &[u32], rows: &mut [u32], from: Step, left: u
 }
 
 // A cast, with the INT that belongs to a pointer type by rule 8.
-#[cycle(aggregate_arm_arms_assignment_block_call_cast_defer_expression_expressions_let_statement_match_expression_operation_slice_statement_statements_tilde_statement_try_or_closure)]
+#[cycle(expression_readers)]
 fn cast(
     source: &[u8],
     prepared: &[u8],
@@ -302,7 +302,7 @@ fn cast(
 }
 
 // A match: an expression and its arms.
-#[cycle(aggregate_arm_arms_assignment_block_call_cast_defer_expression_expressions_let_statement_match_expression_operation_slice_statement_statements_tilde_statement_try_or_closure)]
+#[cycle(expression_readers)]
 fn match_expression(
     source: &[u8],
     prepared: &[u8],
@@ -339,7 +339,7 @@ fn begins_arm(tokens: &[u32], step: Step) -> bool
 }
 
 // As many arms as there are.
-#[cycle(aggregate_arm_arms_assignment_block_call_cast_defer_expression_expressions_let_statement_match_expression_operation_slice_statement_statements_tilde_statement_try_or_closure)]
+#[cycle(expression_readers)]
 fn arms(
     source: &[u8],
     prepared: &[u8],
@@ -362,7 +362,7 @@ fn arms(
 }
 
 // An arm: its head, its payloads and its expression.
-#[cycle(aggregate_arm_arms_assignment_block_call_cast_defer_expression_expressions_let_statement_match_expression_operation_slice_statement_statements_tilde_statement_try_or_closure)]
+#[cycle(expression_readers)]
 fn arm(
     source: &[u8],
     prepared: &[u8],
@@ -442,7 +442,7 @@ fn begins_expression(tokens: &[u32], step: Step) -> bool
 }
 
 // As many expressions as there are.
-#[cycle(aggregate_arm_arms_assignment_block_call_cast_defer_expression_expressions_let_statement_match_expression_operation_slice_statement_statements_tilde_statement_try_or_closure)]
+#[cycle(expression_readers)]
 fn expressions(
     source: &[u8],
     prepared: &[u8],
@@ -465,7 +465,7 @@ fn expressions(
 }
 
 // A block.
-#[cycle(aggregate_arm_arms_assignment_block_call_cast_defer_expression_expressions_let_statement_match_expression_operation_slice_statement_statements_tilde_statement_try_or_closure)]
+#[cycle(expression_readers)]
 pub(crate) fn block(
     source: &[u8],
     prepared: &[u8],
@@ -501,7 +501,7 @@ fn begins_statement(tokens: &[u32], step: Step) -> bool
 }
 
 // As many statements as there are.
-#[cycle(aggregate_arm_arms_assignment_block_call_cast_defer_expression_expressions_let_statement_match_expression_operation_slice_statement_statements_tilde_statement_try_or_closure)]
+#[cycle(expression_readers)]
 fn statements(
     source: &[u8],
     prepared: &[u8],
@@ -524,7 +524,7 @@ fn statements(
 }
 
 // A statement.
-#[cycle(aggregate_arm_arms_assignment_block_call_cast_defer_expression_expressions_let_statement_match_expression_operation_slice_statement_statements_tilde_statement_try_or_closure)]
+#[cycle(expression_readers)]
 fn statement(
     source: &[u8],
     prepared: &[u8],
@@ -561,7 +561,7 @@ fn statement(
 }
 
 // A let; by rule 3 its leading IDENT is its type if that is a type name, and else its name.
-#[cycle(aggregate_arm_arms_assignment_block_call_cast_defer_expression_expressions_let_statement_match_expression_operation_slice_statement_statements_tilde_statement_try_or_closure)]
+#[cycle(expression_readers)]
 fn let_statement(
     source: &[u8],
     prepared: &[u8],
@@ -592,7 +592,7 @@ fn let_statement(
 }
 
 // A set of a name or of an element.
-#[cycle(aggregate_arm_arms_assignment_block_call_cast_defer_expression_expressions_let_statement_match_expression_operation_slice_statement_statements_tilde_statement_try_or_closure)]
+#[cycle(expression_readers)]
 fn assignment(
     source: &[u8],
     prepared: &[u8],
@@ -623,7 +623,7 @@ fn assignment(
 }
 
 // A defer.
-#[cycle(aggregate_arm_arms_assignment_block_call_cast_defer_expression_expressions_let_statement_match_expression_operation_slice_statement_statements_tilde_statement_try_or_closure)]
+#[cycle(expression_readers)]
 fn defer(
     source: &[u8],
     prepared: &[u8],
@@ -646,7 +646,7 @@ fn defer(
 }
 
 // A foreach, a loop or a complement, by rule 6.
-#[cycle(aggregate_arm_arms_assignment_block_call_cast_defer_expression_expressions_let_statement_match_expression_operation_slice_statement_statements_tilde_statement_try_or_closure)]
+#[cycle(expression_readers)]
 fn tilde_statement(
     source: &[u8],
     prepared: &[u8],

@@ -1,5 +1,7 @@
 // From tokens to rows: the readers of types, of expressions, statements and blocks, and of declarations, each proved to give what
 // the leftmost reading of its nonterminal gives.
+#![tactic(auto)]
+
 mod declarations;
 mod expressions;
 mod questions;
@@ -10,7 +12,7 @@ mod words;
 pub use declarations::read_program;
 
 // How far a reading has come: the next token and the next row, or a refusal's number and place.
-#[derive(Drop)]
+#[derive(Clone, Copy)]
 pub enum Step {
     Read(usize, usize),
     Refused(u32, usize),

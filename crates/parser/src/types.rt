@@ -21,7 +21,7 @@ pub(crate) fn begins_type(tokens: &[u32], step: Step) -> bool
 }
 
 // A type.
-#[cycle(parenthesized_read_type_type_operator_types)]
+#[cycle(type_readers)]
 pub(crate) fn read_type(tokens: &[u32], rows: &mut [u32], from: Step, left: usize) -> Step
     requires tokens { Tokens tokens.now }
     requires within { Within tokens.now 1 from }
@@ -47,7 +47,7 @@ pub(crate) fn read_type(tokens: &[u32], rows: &mut [u32], from: Step, left: usiz
 }
 
 // A mark and so many types.
-#[cycle(parenthesized_read_type_type_operator_types)]
+#[cycle(type_readers)]
 fn type_operator(
     tokens: &[u32],
     rows: &mut [u32],
@@ -72,7 +72,7 @@ fn type_operator(
 }
 
 // A function type or an instance of a generic one, in parentheses.
-#[cycle(parenthesized_read_type_type_operator_types)]
+#[cycle(type_readers)]
 fn parenthesized(tokens: &[u32], rows: &mut [u32], from: Step, left: usize) -> Step
     requires tokens { Tokens tokens.now }
     requires within { Within tokens.now 1 from }
@@ -96,7 +96,7 @@ fn parenthesized(tokens: &[u32], rows: &mut [u32], from: Step, left: usize) -> S
 }
 
 // As many types as there are.
-#[cycle(parenthesized_read_type_type_operator_types)]
+#[cycle(type_readers)]
 fn types(tokens: &[u32], rows: &mut [u32], from: Step, left: usize) -> Step
     requires tokens { Tokens tokens.now }
     requires within { Within tokens.now 0 from }

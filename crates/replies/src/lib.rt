@@ -1,4 +1,6 @@
-// What the desk program does with a script that it is sent: it reads it whole from a descriptor and prints the answer.
+// What the desk program does with a script that it is sent: it reads it whole and prints the answer.
+#![tactic(auto)]
+
 mod reply;
 mod script;
 mod service;
@@ -8,7 +10,7 @@ pub use script::read_script;
 pub use service::serve;
 
 // What one call that reads came to: so many bytes, the end of the input, a call that a signal interrupted, or a call that failed.
-#[derive(Drop)]
+#[derive(Clone, Copy)]
 pub enum Outcome {
     Got(usize),
     End,
@@ -16,15 +18,15 @@ pub enum Outcome {
     Failed,
 }
 
-// What reading a descriptor came to: so many bytes, or nothing, because a call failed.
-#[derive(Drop)]
+// What reading an input came to: so many bytes, or nothing, because a call failed.
+#[derive(Clone, Copy)]
 pub enum Input {
     Script(usize),
     Unreadable,
 }
 
 // How far reading has come after a call: so many bytes and so many retries left, or what it came to.
-#[derive(Drop)]
+#[derive(Clone, Copy)]
 pub enum Progress {
     More(usize, usize),
     Done(Input),

@@ -1,9 +1,10 @@
-// Reading a script from a descriptor. A call that fails is never taken for the end of the input.
+// Reading a script. A call that fails is never taken for the end of the input.
 ghost use Rattle.std.specs.Prelude.{◌≡◌, ℕ, ◌+◌, ◌^◌, ◌<◌, length};
 ghost use Rattle.replies.specs.internal.Input.{outcome_of, after_call, GotWithin, ScriptWithin};
 ghost use Rattle.replies.specs.declared.Outcome.TheVariants.{Got};
 
 use crate::{Input, Outcome, Progress};
+use std::io::{ErrorKind, Read};
 
 // How often a call that a signal interrupts is tried again for one script. A loop that is proved has to end.
 const RETRIES: usize = 1000000;
@@ -25,13 +26,13 @@ fn outcome(res: isize, interrupted: bool, count: usize) -> Outcome
 }
 
 // One call that reads into the room.
-fn read_some(input: i32, room: &mut [u8]) -> Outcome
+fn read_some<R: Read>(input: &mut R, room: &mut [u8]) -> Outcome
     ensures { GotWithin (length room.new) result }
 {
-    let result = libc::read(input, room);
-    let interrupted = os::errno() == libc::EINTR;
-    let count = io::count(result, room);
-    outcome(result, interrupted, count)
+    match input.read(room) {
+        Ok(count) => outcome(0, false, count),
+        Err(error) => outcome(-1, error.kind() == ErrorKind::Interrupted, 0),
+    }
 }
 
 // How far reading has come after a call, from so many bytes and so many retries on.
@@ -53,7 +54,7 @@ fn after_call(done: usize, retries: usize, outcome: Outcome) -> Progress
 }
 
 // Reads until the buffer is full or the input ends.
-pub fn read_script(input: i32, buffer: &mut [u8]) -> Input
+pub fn read_script<R: Read>(input: &mut R, buffer: &mut [u8]) -> Input
     ensures { ScriptWithin (length buffer.new) result }
 {
     let mut done = 0;

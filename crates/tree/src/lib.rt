@@ -1,4 +1,6 @@
 // The tree table: the rows of a tree, parent first, in a lent table of numbers.
+#![tactic(auto)]
+
 pub mod row_kinds;
 mod table;
 

@@ -1,4 +1,6 @@
 // The type names of a source: the list of extra names, which a caller lends beside the source, and the names that the source declares.
+#![tactic(auto)]
+
 mod compare;
 mod declarations;
 mod filter;
@@ -12,7 +14,7 @@ pub use names::is_type_name;
 pub use prepared::{PREPARED_LIMIT, prepare};
 
 // Whether a list of names is good, or the refusal's number and place.
-#[derive(Drop)]
+#[derive(Clone, Copy)]
 pub enum Checked {
     Good,
     Refused(u32, usize),
@@ -20,7 +22,7 @@ pub enum Checked {
 
 // Which names are in force at a place: in grammar 1.7 those of the whole program, everywhere. A grammar in which a part of a program
 // has names of its own adds a scope here.
-#[derive(Drop)]
+#[derive(Clone, Copy)]
 pub enum Scope {
     Program,
 }

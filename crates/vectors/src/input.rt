@@ -1,9 +1,13 @@
 // The cases: a header of five numbers `S R N T W`, then S bytes that R times over are the source, then N bytes of names, then one
 // byte 10. T and W are the lengths of the token table and of the tree table.
 ghost use Rattle.std.specs.Prelude.{◌≤◌, length};
+ghost use Rattle.std.specs.Io.{ReadsAtMost};
+
+use std::io;
+use std::io::Read;
 
 // Where a case's parts stand, how often its piece stands in the source, and the lengths of its tables.
-#[derive(Drop)]
+#[derive(Clone, Copy)]
 pub struct Case {
     pub piece: usize,
     pub names: usize,
@@ -13,7 +17,7 @@ pub struct Case {
     pub tree: usize,
 }
 
-#[derive(Drop)]
+#[derive(Clone, Copy)]
 struct Number {
     value: usize,
     next: usize,
@@ -97,4 +101,19 @@ pub(crate) fn repeat_into(source: &mut [u8], piece: &[u8], times: usize) -> usiz
         left -= 1;
     }
     at
+}
+
+// Reads until the buffer is full or the input ends, and answers how many bytes that is. A call that fails is an error.
+pub(crate) fn read_full<R: Read>(input: &mut R, buffer: &mut [u8]) -> io::Result<usize>
+    ensures { ReadsAtMost result buffer.new }
+{
+    let mut done = 0;
+    while done < buffer.len() {
+        let count = input.read(&mut buffer[done..])?;
+        if count == 0 {
+            return Ok(done);
+        }
+        done += count;
+    }
+    Ok(done)
 }

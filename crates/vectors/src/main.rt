@@ -1,11 +1,14 @@
 // Runs the stored cases of standard input through `nurl::read` and prints each answer with both whole tables.
+#![tactic(auto)]
+
 mod input;
 mod output;
 mod table;
 
-ghost use Rattle.std.specs.Prelude.{◌≡◌, ◌<◌, length};
+ghost use Rattle.std.specs.Prelude.{◌≡◌, ◌<◌, length, IfOk};
 
 use nurl::Answer;
+use std::io;
 use table::Layout;
 
 // The two tables: the numbers in a row, and the first number before a case.
@@ -20,37 +23,46 @@ const TREE: Layout = Layout {
 };
 
 // Where the next case stands, and the place reached in the output.
-#[derive(Drop)]
+#[derive(Clone, Copy)]
 struct Step {
     next: usize,
     to: usize,
 }
 
 // Prints an answer and the tables as they are after it.
-fn print(out: &mut [u8], to: usize, answer: Answer, tokens: &[u32], tree: &[u32]) -> usize {
-    let mut at = output::put_answer(out, to, answer);
-    at = table::put_table(out, at, tokens, TOKENS);
-    at = output::put_text(out, at, b"tree\n");
-    table::put_table(out, at, tree, TREE)
+fn print(
+    rt: &impl Print,
+    out: &mut [u8],
+    to: usize,
+    answer: Answer,
+    tokens: &[u32],
+    tree: &[u32],
+) -> io::Result<usize> {
+    let mut at = output::put_answer(rt, out, to, answer)?;
+    at = table::put_table(rt, out, at, tokens, TOKENS)?;
+    at = output::put_text(rt, out, at, b"tree\n")?;
+    table::put_table(rt, out, at, tree, TREE)
 }
 
 // Runs one case and prints what came of it.
 fn run(
+    rt: &impl Print,
     source: &[u8],
     names: &[u8],
     tokens: &mut [u32],
     tree: &mut [u32],
     out: &mut [u8],
     to: usize,
-) -> usize {
+) -> io::Result<usize> {
     table::fill(tokens, TOKENS);
     table::fill(tree, TREE);
     let answer = nurl::read(source, names, tokens, tree);
-    print(out, to, answer, tokens, tree)
+    print(rt, out, to, answer, tokens, tree)
 }
 
 // Runs the case at `at`. What is not a case ends the text.
 fn run_case(
+    rt: &impl Print,
     text: &[u8],
     at: usize,
     source: &mut [u8],
@@ -58,9 +70,9 @@ fn run_case(
     tree: &mut [u32],
     out: &mut [u8],
     to: usize,
-) -> Step
+) -> io::Result<Step>
     requires { at < length text.now }
-    ensures { at < result.next }
+    ensures { IfOk result (λ step. at < step.next) }
 {
     let case = input::case_at(text, at);
     let piece = case.piece;
@@ -73,33 +85,41 @@ fn run_case(
             if w <= tree.len() {
                 let len = input::repeat_into(source, &text[piece..names], case.times);
                 let to = run(
+                    rt,
                     &source[..len],
                     &text[names..end],
                     &mut tokens[..t],
                     &mut tree[..w],
                     out,
                     to,
-                );
-                return Step { next: end + 1, to };
+                )?;
+                return Ok(Step { next: end + 1, to });
             }
         }
     }
-    Step {
+    Ok(Step {
         next: text.len(),
         to,
-    }
+    })
 }
 
 // Runs all cases of a text.
-fn run_all(text: &[u8], source: &mut [u8], tokens: &mut [u32], tree: &mut [u32], out: &mut [u8]) {
+fn run_all(
+    rt: &impl Print,
+    text: &[u8],
+    source: &mut [u8],
+    tokens: &mut [u32],
+    tree: &mut [u32],
+    out: &mut [u8],
+) -> io::Result<()> {
     let mut at = 0;
     let mut to = 0;
     while at < text.len() {
-        let step = run_case(text, at, source, tokens, tree, out, to);
+        let step = run_case(rt, text, at, source, tokens, tree, out, to)?;
         at = step.next;
         to = step.to;
     }
-    output::flush(out, to);
+    output::flush(rt, out, to)
 }
 
 // Room for all cases, for the longest source of a case, and for the largest tables.
@@ -127,12 +147,26 @@ fn tree_buffer() -> [u32; 12000]
     [0; 12000]
 }
 
-fn main() {
+// Room for the output between two writes.
+fn output_buffer() -> [u8; 65536]
+    ensures { 65536 ≡ length result }
+{
+    [0; 65536]
+}
+
+fn main(rt: HostRuntime) -> io::Result<()> {
     let mut text = text_buffer();
     let mut source = source_buffer();
     let mut tokens = tokens_buffer();
     let mut tree = tree_buffer();
-    let mut out = io::large_buffer();
-    let n = io::read_full(0, &mut text);
-    run_all(&text[..n], &mut source, &mut tokens, &mut tree, &mut out);
+    let mut out = output_buffer();
+    let n = input::read_full(&mut rt.stdin(), &mut text)?;
+    run_all(
+        &rt,
+        &text[..n],
+        &mut source,
+        &mut tokens,
+        &mut tree,
+        &mut out,
+    )
 }

@@ -1,50 +1,73 @@
 // Standard output by way of a buffer that the caller lends. Each function puts something at a place of the buffer and answers the
 // place after it; a full buffer is written and begun again.
+use itoa::Buffer;
 use nurl::Answer;
+use std::io;
 
-const OUT: i32 = 1;
-
-fn put_byte(out: &mut [u8], at: usize, byte: u8) -> usize {
+fn put_byte(rt: &impl Print, out: &mut [u8], at: usize, byte: u8) -> io::Result<usize> {
     if at < out.len() {
         out[at] = byte;
-        return at + 1;
+        return Ok(at + 1);
     }
-    io::write_all(OUT, out);
+    rt.write_all(out)?;
     if 0 < out.len() {
         out[0] = byte;
-        return 1;
+        return Ok(1);
     }
-    0
+    Ok(0)
 }
 
-pub(crate) fn put_text(out: &mut [u8], at: usize, text: &[u8]) -> usize {
+pub(crate) fn put_text(
+    rt: &impl Print,
+    out: &mut [u8],
+    at: usize,
+    text: &[u8],
+) -> io::Result<usize> {
     let mut to = at;
     let mut i = 0;
     while i < text.len() {
-        to = put_byte(out, to, text[i]);
+        to = put_byte(rt, out, to, text[i])?;
         i += 1;
     }
-    to
+    Ok(to)
 }
 
 // A number and the byte that stands after it.
-pub(crate) fn put_number(out: &mut [u8], at: usize, n: u64, after: u8) -> usize {
-    let mut digits = [0u8; 20];
-    let k = io::decimal(n, &mut digits);
-    let to = put_text(out, at, &digits[..k]);
-    put_byte(out, to, after)
+pub(crate) fn put_number(
+    rt: &impl Print,
+    out: &mut [u8],
+    at: usize,
+    n: u64,
+    after: u8,
+) -> io::Result<usize> {
+    let mut digits = Buffer::new();
+    let to = put_text(rt, out, at, digits.format(n).as_bytes())?;
+    put_byte(rt, out, to, after)
 }
 
 // A line of a word and two numbers.
-fn put_pair(out: &mut [u8], at: usize, word: &[u8], first: u64, second: u64) -> usize {
-    let mut to = put_text(out, at, word);
-    to = put_number(out, to, first, b' ');
-    put_number(out, to, second, b'\n')
+fn put_pair(
+    rt: &impl Print,
+    out: &mut [u8],
+    at: usize,
+    word: &[u8],
+    first: u64,
+    second: u64,
+) -> io::Result<usize> {
+    let mut to = put_text(rt, out, at, word)?;
+    to = put_number(rt, out, to, first, b' ')?;
+    put_number(rt, out, to, second, b'\n')
 }
 
-pub(crate) fn put_answer(out: &mut [u8], at: usize, answer: Answer) -> usize {
+pub(crate) fn put_answer(
+    rt: &impl Print,
+    out: &mut [u8],
+    at: usize,
+    answer: Answer,
+) -> io::Result<usize> {
     match answer {
         Answer::Accepted(tokens, rows) => put_pair(
+            rt,
             out,
             at,
             b"accepted ",
@@ -52,6 +75,7 @@ pub(crate) fn put_answer(out: &mut [u8], at: usize, answer: Answer) -> usize {
             rows as u64,
         ),
         Answer::Refused(number, place) => put_pair(
+            rt,
             out,
             at,
             b"refused ",
@@ -62,8 +86,9 @@ pub(crate) fn put_answer(out: &mut [u8], at: usize, answer: Answer) -> usize {
 }
 
 // Writes what stands before the place.
-pub(crate) fn flush(out: &[u8], at: usize) {
+pub(crate) fn flush(rt: &impl Print, out: &[u8], at: usize) -> io::Result<()> {
     if at <= out.len() {
-        io::write_all(OUT, &out[..at]);
+        rt.write_all(&out[..at])?;
     }
+    Ok(())
 }

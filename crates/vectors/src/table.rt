@@ -2,6 +2,7 @@
 ghost use Rattle.std.specs.Prelude.{◌<◌, ◌≤◌, length};
 
 use crate::output;
+use std::io;
 
 // The most numbers of a table that are printed row by row.
 const MOST_PRINTED: usize = 12000;
@@ -10,14 +11,14 @@ const MOST_PRINTED: usize = 12000;
 const DIGEST_PRIME: u64 = 4294967291;
 
 // The numbers in a row, and the first number before a case.
-#[derive(Drop)]
+#[derive(Clone, Copy)]
 pub struct Layout {
     pub width: usize,
     pub base: u32,
 }
 
 // What rows can hold throughout: the numbers from a first one on, as before a case, or zero.
-#[derive(Drop)]
+#[derive(Clone, Copy)]
 enum Filling {
     Pattern(u32),
     Zero,
@@ -25,7 +26,7 @@ enum Filling {
 
 // Number `i` of a table before a case. A table has at most 750,000 numbers, so nothing wraps.
 fn pattern(base: u32, i: usize) -> u32 {
-    std::num::wrapping_add_u32(base, (i % 4294967296) as u32)
+    base.wrapping_add((i % 4294967296) as u32)
 }
 
 // Number `i` of a table that holds a filling throughout.
@@ -88,71 +89,90 @@ fn after(last: bool) -> u8 {
 }
 
 // Numbers on one line; none make no line.
-fn put_line(out: &mut [u8], at: usize, numbers: &[u32]) -> usize {
+fn put_line(rt: &impl Print, out: &mut [u8], at: usize, numbers: &[u32]) -> io::Result<usize> {
     let mut to = at;
     let mut i = 0;
     while i < numbers.len() {
         let last = i + 1 == numbers.len();
-        to = output::put_number(out, to, wide(numbers[i]), after(last));
+        to = output::put_number(rt, out, to, wide(numbers[i]), after(last))?;
         i += 1;
     }
-    to
+    Ok(to)
 }
 
 // Rows, each on a line.
-fn put_rows(out: &mut [u8], at: usize, rows: &[u32], width: usize) -> usize
+fn put_rows(
+    rt: &impl Print,
+    out: &mut [u8],
+    at: usize,
+    rows: &[u32],
+    width: usize,
+) -> io::Result<usize>
     requires { 0 < width }
 {
     let mut to = at;
     let mut from = 0;
     while width <= rows.len() - from {
         let end = from + width;
-        to = put_line(out, to, &rows[from..end]);
+        to = put_line(rt, out, to, &rows[from..end])?;
         from = end;
     }
-    to
+    Ok(to)
 }
 
 // Rows of which those from `shown` on are one line, a word and their number.
 fn put_shortened(
+    rt: &impl Print,
     out: &mut [u8],
     at: usize,
     rows: &[u32],
     width: usize,
     shown: usize,
     word: &[u8],
-) -> usize
+) -> io::Result<usize>
     requires width_nonzero { 0 < width }
     requires shown_in_bounds { shown ≤ length rows.now }
 {
-    let mut to = put_rows(out, at, &rows[..shown], width);
-    to = output::put_text(out, to, word);
-    output::put_number(out, to, ((rows.len() - shown) / width) as u64, b'\n')
+    let mut to = put_rows(rt, out, at, &rows[..shown], width)?;
+    to = output::put_text(rt, out, to, word)?;
+    output::put_number(rt, out, to, ((rows.len() - shown) / width) as u64, b'\n')
 }
 
 // Whole rows; those at the end that hold the pattern, or else zero, are one line.
-fn put_whole(out: &mut [u8], at: usize, rows: &[u32], layout: Layout) -> usize
+fn put_whole(
+    rt: &impl Print,
+    out: &mut [u8],
+    at: usize,
+    rows: &[u32],
+    layout: Layout,
+) -> io::Result<usize>
     requires { 0 < layout.width }
 {
     let width = layout.width;
     let changed = before_filled(rows, width, Filling::Pattern(layout.base));
     if changed < rows.len() {
-        return put_shortened(out, at, rows, width, changed, b"unchanged ");
+        return put_shortened(rt, out, at, rows, width, changed, b"unchanged ");
     }
     let nonzero = before_filled(rows, width, Filling::Zero);
     if nonzero < rows.len() {
-        return put_shortened(out, at, rows, width, nonzero, b"zero ");
+        return put_shortened(rt, out, at, rows, width, nonzero, b"zero ");
     }
-    put_rows(out, at, rows, width)
+    put_rows(rt, out, at, rows, width)
 }
 
 // The whole rows of a table, and the numbers after them on a line.
-fn put_rows_and_rest(out: &mut [u8], at: usize, table: &[u32], layout: Layout) -> usize
+fn put_rows_and_rest(
+    rt: &impl Print,
+    out: &mut [u8],
+    at: usize,
+    table: &[u32],
+    layout: Layout,
+) -> io::Result<usize>
     requires { 0 < layout.width }
 {
     let whole = table.len() - table.len() % layout.width;
-    let to = put_whole(out, at, &table[..whole], layout);
-    put_line(out, to, &table[whole..])
+    let to = put_whole(rt, out, at, &table[..whole], layout)?;
+    put_line(rt, out, to, &table[whole..])
 }
 
 // A number for a whole table, in which every number of it counts.
@@ -167,12 +187,18 @@ fn digest(table: &[u32]) -> u64 {
 }
 
 // A table: its rows, or its digest where it has too many to print.
-pub(crate) fn put_table(out: &mut [u8], at: usize, table: &[u32], layout: Layout) -> usize
+pub(crate) fn put_table(
+    rt: &impl Print,
+    out: &mut [u8],
+    at: usize,
+    table: &[u32],
+    layout: Layout,
+) -> io::Result<usize>
     requires { 0 < layout.width }
 {
     if MOST_PRINTED < table.len() {
-        let to = output::put_text(out, at, b"digest ");
-        return output::put_number(out, to, digest(table), b'\n');
+        let to = output::put_text(rt, out, at, b"digest ")?;
+        return output::put_number(rt, out, to, digest(table), b'\n');
     }
-    put_rows_and_rest(out, at, table, layout)
+    put_rows_and_rest(rt, out, at, table, layout)
 }

@@ -282,7 +282,8 @@ module _ (l : Language) (source names : List ℕ) (limit : ℕ) (tokens rows : L
       };
     }
       where
-        said : (number place : ℕ) → (result source (verdict l limit source names (token_room tokens) (tree_room rows)) tokens rows).answer ≡ Refused number place
+        said : (number place : ℕ)
+            → (result source (verdict l limit source names (token_room tokens) (tree_room rows)) tokens rows).answer ≡ Refused number place
             → Says number place (result source (verdict l limit source names (token_room tokens) (tree_room rows)) tokens rows).tokens
         said number place h =
             refusal_says number place _ _ (refused_by (verdict l limit source names (token_room tokens) (tree_room rows)) found number place h)

@@ -28,7 +28,7 @@ use Rattle.grammar.specs.internal.Nonterminals.{cast_rest, selector, arms, arm, 
 use Rattle.grammar.specs.internal.Nonterminals.{parenthesized, struct_parameters}
 use Rattle.grammar.specs.internal.Classes.{name, declared_word, any_word, payload_token, literals, operators}
 use Rattle.grammar.specs.executable.Reading.{none, selected, choice}
-use Rattle.grammar.specs.Nurl.{any_name, plain_name, asks, productions}
+use Rattle.grammar.specs.Nurl.{any_name, plain_name, productions}
 use Rattle.grammar.specs.internal.Productions.{kind_token, rule_of, a_tilde, a_brace, a_star, opens_names, opens_words, opens_struct}
 use Rattle.grammar.specs.internal.Productions.{two_names, opens_closure, zero_or_one, opens_struct_names}
 use Rattle.grammar.specs.internal.Alternatives.{alternative, nth, kind_of_class, kind_alternative}

@@ -52,8 +52,8 @@ module _ (g : List Production) (v : View) (h : Hints) (bound : ℕ) (good : Clos
   unfolding read_within joined enter
   complete d after f t zero = short
   complete end after f t (suc fuel) = same
-  complete (taken {cs = cs} {ss = ss} m d) after f t (suc fuel) =
-      rw m (complete d after (flows_rest g v h bound good steady after (token cs) ss f) t fuel)
+  complete {i = i} (taken {cs = cs} {ss = ss} m d) after f t (suc fuel) =
+      rw m (complete {i = suc i} d after (flows_rest g v h bound good steady after (token cs) ss f) t fuel)
   complete (held {b = b} {q = q} {ss = ss} m d) after f t (suc fuel) =
       rw m (complete d after (flows_rest g v h bound good steady after (condition b q) ss f) t fuel)
   complete (entered {e = e} {n = n} {below = left} {i = i} {j = j} {x = x} {said = said} {p = p} {ss = ss} {inner = rows} has of fits inner rest)
@@ -61,6 +61,6 @@ module _ (g : List Production) (v : View) (h : Hints) (bound : ℕ) (good : Clos
       let follow = part_followed g v h bound good steady x rest after f t in
       let within : h.follow x (v.class (v.inside x i e) j) ≡ true = rw (steady.follow_same x i e j follow) follow in
       rw (taken-choice x p has of inner within, descend-below (levels p.makes) n left i _ fits)
-      (agrees_onward _ (complete inner (h.follow x) (flows_right g v h bound good steady p x has of) within fuel)
+      (agrees_onward _ (complete {e = v.inside x i e} {n = left} inner (h.follow x) (flows_right g v h bound good steady p x has of) within fuel)
       (agrees_onward (joined p.makes i j rows said)
       (complete rest after (flows_rest g v h bound good steady after (derived x) ss f) t fuel) same))

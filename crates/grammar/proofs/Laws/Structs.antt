@@ -90,10 +90,12 @@ type17 = refl
 none-taken : {g : List Production} {v : View} {e : Names} {n i j said : ℕ} {p : Production} {rows : List Row}
     → Has (rule_of mutable no_row [] ∷ []) p → Derives g v e n p.right i j rows said → j ≡ i
 none-taken here end = refl
+none-taken (there has) _ = elim has [ ]
 
 one_taken : {g : List Production} {v : View} {e : Names} {n i j said : ℕ} {p : Production} {rows : List Row}
     → Has (rule_of type (gives_row named_type_row) (token declared_word ∷ []) ∷ []) p → Derives g v e n p.right i j rows said → j ≡ suc i
 one_taken here (taken h end) = refl
+one_taken (there has) _ = elim has [ ]
 
 -- the productions of `struct_parameters`
 abbrev lists : List Production
@@ -135,6 +137,7 @@ module _ (l : Language) (opens : Opens l) (ts : List Item) where
   unfolding met asked agrees
   list_opens here (held {i = i} h d) brace = opens.list ts i h
   list_opens (there here) (held h end) brace = rw brace opens.brace
+  list_opens (there (there has)) _ brace = elim has [ ]
 
   -- a struct
   pub struct_asked : Kinds ts → {e : Names} {n i j said : ℕ} {ss : List Symbol} {rows : List Row}

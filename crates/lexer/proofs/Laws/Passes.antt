@@ -20,7 +20,7 @@ use Rattle.lexer.specs.executable.Scans.{Scan, with_token, scan}
 use Rattle.lexer.specs.internal.Leaves.{blank, written}
 use Rattle.lexer.specs.internal.Tokenized.{ended_with, scanned, ended_by}
 use Rattle.lexer.specs.declared.Lexeme.{Lexeme}
-use Rattle.lexer.specs.declared.Lexeme.TheVariants.{End, Skipped, BadByte, OpenString}
+use Rattle.lexer.specs.declared.Lexeme.TheVariants.{End, Skipped, Token as AToken, BadByte, OpenString}
 use Rattle.lexer.proofs.Laws.Fronts.{front_one}
 use Rattle.lexer.proofs.Laws.Sizes.{spelled}
 use Rattle.lexer.proofs.Laws.Scans.{scan_from, scan_from_start, scan_end, scan_skip, scan_token, scan_bad, scan_open}
@@ -145,3 +145,5 @@ module _ (e : Edition) (good : spelled e.marks ≡ true) (s before : List ℕ) w
     pass_ended End ends_clean h = ended_by_lem _ End (scan_end e good s at h) refl refl
     pass_ended BadByte ends_bad h = ended_by_lem _ BadByte (scan_bad e good s at h) refl refl
     pass_ended OpenString ends_open h = ended_by_lem _ OpenString (scan_open e good s at h) refl refl
+    pass_ended (Skipped _) n h = elim n [ ]
+    pass_ended (AToken _ _) n h = elim n [ ]

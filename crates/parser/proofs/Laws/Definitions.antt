@@ -1,6 +1,6 @@
 -- The productions of structs, enums and constants, and of the variants of enums with their payload types, read step by step.
 -- Assumes nothing.
-use Prim.Native.Nat.{ℕ, zero, suc, ◌<◌}
+use Prim.Native.Nat.{ℕ, zero, suc, ◌<◌, ◌≤◌}
 use mathlib.Core.Path.{◌≡◌, refl, ap, ◌∙◌, sym}
 use mathlib.Core.Bool.{Bool, true, false, false≢true}
 use mathlib.Core.List.{List, [], ◌∷◌}
@@ -188,12 +188,13 @@ module _ (source tokens : List ℕ) (good : Tokens tokens) (e : Names) where
   unfolding levels
   variant_named {n} {below} {s} {s₀} {s₁} {t} within level is to₀ to₁ =
       let fixed = names_fixed source tokens good e in
+      let wider : 1 ≤ 2 = omega arith in
       let a₀ = begun_part productions v tokens e fixed within level refl (λ (j k : ℕ) (read : s ≡ Read j k).
       variant_one v e j (class_low source tokens good e j) (plain_class source tokens e true s is j k read)) in
       let asks = held productions v tokens e fixed a₀
       (met_here source tokens e plain_name (row_left s) true (asked_reserved plain_name source tokens e s ∙ is)) in
       let a₁ = took_name source tokens good e asks (to₁ ∙ ap (taken_kind tokens ident) to₀) in
-      let reach : Within tokens 2 (row_left s) = within_wider tokens (after_within productions v tokens e fixed asks) (omega arith) in
+      let reach : Within tokens 2 (row_left s) = within_wider tokens (after_within productions v tokens e fixed asks) wider in
       fewer productions v tokens e fixed a₁
       (rw (to₁, to₀) (taken_fewer tokens (λ (j : ℕ). eqb (kind_at tokens j) ident) (kind_room tokens ident (omega arith)) reach))
 

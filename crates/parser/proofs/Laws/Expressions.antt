@@ -198,7 +198,8 @@ module _ (source tokens : List ℕ) (good : Tokens tokens) (e : Names) where
       (kind-leads (λ (k : ℕ). eqb (kind_alternative expression k) 1) (among literals) literal-kind j is)
 
   block_chosen : (j : ℕ) → eqb (kind_alternative expression (kind j)) 10 ≡ true
-      → choice productions v e block j ≡ selected (rule_of block (gives_row block_row) (kind_token left_brace ∷ derived statements ∷ kind_token right_brace ∷ []))
+      → choice productions v e block j ≡ selected (rule_of block (gives_row block_row)
+      (kind_token left_brace ∷ derived statements ∷ kind_token right_brace ∷ []))
   block_chosen j is =
       block_one v e j (class_low source tokens good e j) (eqb-true _ _
       (kind-leads (λ (k : ℕ). eqb (kind_alternative expression k) 10) (λ (k : ℕ). eqb k left_brace) block-kind j is))
@@ -219,7 +220,8 @@ module _ (source tokens : List ℕ) (good : Tokens tokens) (e : Names) where
       let fixed = names_fixed source tokens good e in
       gives_inlined productions v e fixed (rule_of expression no_row (derived block ∷ []))
       (expression_chosen j (eqb-true _ _ is) ∙ expression_block) refl
-      (gives_deep productions v e fixed block j (rule_of block (gives_row block_row) (kind_token left_brace ∷ derived statements ∷ kind_token right_brace ∷ [])) []
+      (gives_deep productions v e fixed block j (rule_of block (gives_row block_row)
+      (kind_token left_brace ∷ derived statements ∷ kind_token right_brace ∷ [])) []
       (block_chosen j is) refl)
 
   expression_deeper : (j : ℕ) → (kind_alternative expression (kind j) ≡ 0 → ⊥)

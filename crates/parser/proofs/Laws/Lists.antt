@@ -22,7 +22,6 @@ use Rattle.grammar.specs.Languages.{language17, view}
 use Rattle.grammar.specs.Sources.{view_of}
 use Rattle.grammar.specs.internal.Alternatives.{kind_of_class}
 use Rattle.grammar.specs.internal.Productions.{rule_of, opens_names, opens_words, opens_struct_names, kind_token}
-use Rattle.grammar.proofs.Laws.Checks.{below}
 use Rattle.grammar.proofs.Laws.Alternatives17.{name_list_one, word_list_one, type_parameters_some, type_parameters_none, type_arguments_some}
 use Rattle.grammar.proofs.Laws.Alternatives17.{type_arguments_none, struct_parameters_some, struct_parameters_none}
 use Rattle.grammar.proofs.Laws.Views.{classes}
@@ -108,12 +107,14 @@ module _ (source tokens : List ℕ) (good : Tokens tokens) (e : Names) where
   unfolding rowed levels
   list_deep true s opens spent =
       row-deep source tokens good e s
-      (selected (rule_of word_list (gives_row list_row) (kind_token left_bracket ∷ token any_word ∷ derived more_words ∷ kind_token right_bracket ∷ []))) spent refl
+      (selected (rule_of word_list (gives_row list_row) (kind_token left_bracket ∷ token any_word ∷ derived more_words ∷ kind_token right_bracket ∷
+      []))) spent refl
       (λ (j : ℕ) (k : kind_of_class (v.class e j) ≡ next_kind tokens s).
       word_list_one v e j (class_low source tokens good e j) (k ∙ list_bracket true tokens s opens))
   list_deep false s opens spent =
       row-deep source tokens good e s
-      (selected (rule_of name_list (gives_row list_row) (kind_token left_bracket ∷ token declared_word ∷ derived more_names ∷ kind_token right_bracket ∷ []))) spent refl
+      (selected (rule_of name_list (gives_row list_row) (kind_token left_bracket ∷ token declared_word ∷ derived more_names ∷ kind_token
+      right_bracket ∷ []))) spent refl
       (λ (j : ℕ) (k : kind_of_class (v.class e j) ≡ next_kind tokens s).
       name_list_one v e j (class_low source tokens good e j) (k ∙ list_bracket false tokens s opens))
 

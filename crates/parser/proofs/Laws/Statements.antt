@@ -102,7 +102,8 @@ module _ (source tokens : List ℕ) (good : Tokens tokens) (e : Names) where
       → Part n 1 block s t (refused_at 7 s) t
   unfolding rowed levels
   block_deep s is spent =
-      row-deep source tokens good e s (selected (rule_of block (gives_row block_row) (kind_token left_brace ∷ derived statements ∷ kind_token right_brace ∷ [])))
+      row-deep source tokens good e s (selected (rule_of block (gives_row block_row)
+      (kind_token left_brace ∷ derived statements ∷ kind_token right_brace ∷ [])))
       spent refl
       (λ j k. block_one v e j (class_low source tokens good e j) (k ∙ eqb-true (next_kind tokens s) left_brace is))
 

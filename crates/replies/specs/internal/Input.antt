@@ -1,4 +1,4 @@
--- What a call that reads a descriptor came to, and what reading a descriptor to its end came to.
+-- What a call that reads came to, and what reading an input to its end came to.
 use Rattle.std.specs.Prelude.{ℕ, zero, suc, ◌+◌, ◌<◌, ◌≤◌, ◌≡◌, Bool, ℤ, pos, negsuc}
 use Rattle.lexer.specs.Tests.{pick}
 use Rattle.replies.specs.declared.Outcome.{Outcome}

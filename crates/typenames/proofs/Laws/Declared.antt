@@ -68,14 +68,17 @@ module _ (opening : List ℕ) (a b c : Item) (ts : List Item) where
   bar_passed [] e = refl
   bar_passed (u ∷ us) e = rw e
 
+  not_bar : (k : ℕ) → k ≡ ident → eqb k bar ≡ false
+  not_bar k e = rw e
+
   offset_colon : (t u v x : Bool) → a.kind ≡ colon → eqb b.kind ident ≡ t → among opening c.kind ≡ u → eqb b.kind bar ≡ v
       → eqb c.kind ident ≡ x → declared opening zero (a ∷ b ∷ c ∷ ts) ≡ by_offset zero (offset_after opening b.kind c.kind)
   unfolding by_offset offset_after declared names_at struct_name enum_name deeper and
-  offset_colon true true v x ea et eu ev ex = let eb = eqb-true b.kind ident et in rw (ea, eb, eu)
-  offset_colon true false v x ea et eu ev ex = let eb = eqb-true b.kind ident et in rw (ea, eb, eu)
+  offset_colon true true v x ea et eu ev ex = rw (ea, et, eu, not_bar b.kind (eqb-true b.kind ident et))
+  offset_colon true false v x ea et eu ev ex = rw (ea, et, eu, not_bar b.kind (eqb-true b.kind ident et))
   offset_colon false u true true ea et eu ev ex =
       let eb = eqb-true b.kind bar ev in rw (ea, et, ev, ex) (ap (λ (rest : List (List ℕ)). c.text ∷ rest) (bar_passed ts eb))
-  offset_colon false u true false ea et eu ev ex = let eb = eqb-true b.kind bar ev in rw (ea, eb, ex)
+  offset_colon false u true false ea et eu ev ex = rw (ea, et, ev, ex)
   offset_colon false u false x ea et eu ev ex = rw (ea, et, ev)
 
   offset_by : (depth : ℕ) (t : Bool) → eqb a.kind colon ≡ t

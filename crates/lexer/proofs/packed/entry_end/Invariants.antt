@@ -1,0 +1,12 @@
+-- `lexer::packed::entry_end` meets its contract: the place reached and what is left to run make the whole run. Assumes nothing.
+use Prim.Native.Nat.{◌-◌}
+use lib.ListN.{length}
+use Rattle.lexer.specs.internal.Entries.{has_entry}
+use Rattle.lexer.specs.internal.Leaves.{Goes}
+use Rattle.lexer.proofs.packed.entry_end.Given as goal
+
+abbrev pub invariant-loop-i : goal.invariant-loop-i
+invariant-loop-i l = Goes (has_entry l.entry l.entry) l.source l.from l.i
+
+abbrev pub decreases-loop-i : goal.decreases-loop-i
+decreases-loop-i l = length l.source - l.i

@@ -1,0 +1,13 @@
+-- `lexer::runs::letters_end` meets its contract: the place reached and what is left to run make the whole run.
+-- Assumes nothing.
+use Prim.Native.Nat.{◌-◌}
+use lib.ListN.{length}
+use Rattle.lexer.specs.Bytes.{is_word_byte}
+use Rattle.lexer.specs.internal.Leaves.{Goes}
+use Rattle.lexer.proofs.runs.letters_end.Given as goal
+
+abbrev pub invariant-loop-i : goal.invariant-loop-i
+invariant-loop-i l = Goes is_word_byte l.source l.at l.i
+
+abbrev pub decreases-loop-i : goal.decreases-loop-i
+decreases-loop-i l = length l.source - l.i

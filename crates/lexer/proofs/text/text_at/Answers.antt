@@ -1,0 +1,17 @@
+-- `lexer::text::text_at` meets its contract: the place and the length of the token are cut to what the source has. Assumes nothing.
+use native.Mathlib.Nat.{add-sub_cancel_left}
+use Rattle.lexer.specs.Items.{item_of}
+use Rattle.lexer.proofs.Laws.Items.{text_cut}
+use Rattle.lexer.proofs.text.text_at.Goals as goal
+
+pub returns : goal.returns
+unfolding item_of
+returns c =
+    let at_most = c.at_most-start in
+    let at-most2 = c.at_most-len in
+    let size-at = c.size_at in
+    let start-at = c.start_at in
+    let args = c.args in
+    let size = add-sub_cancel_left at_most.result at-most2.result in
+    rw (size, at-most2.ensures, size-at.ensures, at_most.ensures, start-at.ensures)
+    (text_cut args.source.now _ _)

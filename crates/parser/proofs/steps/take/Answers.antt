@@ -1,0 +1,26 @@
+-- `parser::steps::take` meets its contract. Assumes nothing.
+use native.Mathlib.Omega.{arith}
+use borrow.Author.Tests.{eq-eqb, ne_eqb}
+use Rattle.parser.specs.internal.Steps.{taken_by}
+use Rattle.parser.proofs.Laws.Steps.{small_read}
+use Rattle.parser.proofs.steps.take.Goals as goal
+
+pub overflow_add-result : goal.overflow_add-result
+overflow_add-result c =
+    let pre = c.requires in
+    let known = small_read _ _ _ c.in-Read.is pre in
+    omega (arith, known.0)
+
+pub returns-then-kind_at-kind : goal.returns-then-kind_at-kind
+unfolding taken_by
+returns-then-kind_at-kind c =
+    rw (c.in-Read.is, ← c.kind_at.ensures, eq-eqb _ _ c.if-kind_at-kind.true)
+
+pub returns-else-kind_at-kind : goal.returns-else-kind_at-kind
+unfolding taken_by
+returns-else-kind_at-kind c =
+    rw (c.in-Read.is, ← c.kind_at.ensures, ne_eqb _ _ c.if-kind_at-kind.false)
+
+pub returns-in-Refused : goal.returns-in-Refused
+unfolding taken_by
+returns-in-Refused c = rw c.in-Refused.is
