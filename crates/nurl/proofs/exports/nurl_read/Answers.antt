@@ -27,12 +27,18 @@ pub returns-in-Accepted : goal.returns-in-Accepted
 unfolding values
 returns-in-Accepted c =
     let same = c.read-found.ensures.answer in
-    record { answer = sym (ap values c.in-Accepted.is) ∙ ap (λ (r : Result). values r.answer) same; tokens = ap (λ (r : Result). r.tokens) same;
-    rows = ap (λ (r : Result). r.rows) same }
+    record {
+      answer = sym (ap values c.in-Accepted.is) ∙ ap (λ (r : Result). values r.answer) same;
+      tokens = ap (λ (r : Result). r.tokens) same;
+      rows = ap (λ (r : Result). r.rows) same;
+    }
 
 pub returns-in-Refused : goal.returns-in-Refused
 unfolding values
 returns-in-Refused c =
     let same = c.read-found.ensures.answer in
-    record { answer = sym (ap values c.in-Refused.is) ∙ ap (λ (r : Result). values r.answer) same; tokens = ap (λ (r : Result). r.tokens) same;
-    rows = ap (λ (r : Result). r.rows) same }
+    record {
+      answer = sym (ap values c.in-Refused.is) ∙ ap (λ (r : Result). values r.answer) same;
+      tokens = ap (λ (r : Result). r.tokens) same;
+      rows = ap (λ (r : Result). r.rows) same;
+    }

@@ -46,8 +46,12 @@ read_tokens-requires c =
     let if1 = c.if-source-gt-SOURCE_LIMIT in
     let good = sym c.check_names-checked.ensures.answer ∙ c.in-Good.is in
     let said = sym c.tokenize-scanned.ensures.answer ∙ c.in-Tokens.is in
-    record { source_len_bound = if1.false; names_len_bound = good_short args.names.now good; source_value =
-    lent_scan args.source.now args.names.now args.tokens.now args.rows.now if1.false good _ _ said c.tokenize-scanned.ensures.table }
+    record {
+      source_len_bound = if1.false;
+      names_len_bound = good_short args.names.now good;
+      source_value =
+          lent_scan args.source.now args.names.now args.tokens.now args.rows.now if1.false good _ _ said c.tokenize-scanned.ensures.table;
+    }
 
 pub returns-in-Refused : goal.returns-in-Refused
 returns-in-Refused c =
