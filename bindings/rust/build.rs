@@ -12,7 +12,7 @@ fn main() {
     let archive = folder.join("libnurl.a");
     println!("cargo:rerun-if-changed={}", archive.display());
     if !archive.exists() {
-        println!("cargo:warning=no libnurl.a: run `rt staticlib nurl` or set NURL_LIB_DIR");
+        println!("cargo:warning=no libnurl.a: run `tools/build library` or set NURL_LIB_DIR");
     }
     println!("cargo:rustc-link-search=native={}", folder.display());
     println!("cargo:rustc-link-lib=static=nurl");
