@@ -5,9 +5,7 @@ use Rattle.std.specs.Prelude.{ℕ, ◌<◌, ◌≤◌, ◌≡◌, List, length}
 use Rattle.lexer.specs.Refusals.{refusal_number}
 use Rattle.lexer.specs.Tokens.{Token, clean, fault, Tiles}
 use Rattle.lexer.specs.Table.{source_limit, token_room, filled}
-use Rattle.typenames.specs.NameList.{checked}
-use Rattle.typenames.specs.declared.Checked.{Checked}
-use Rattle.typenames.specs.declared.Checked.TheVariants.{Good}
+use Rattle.typenames.specs.NameList.{Checked, Good, checked}
 use Rattle.tree.specs.TreeTable.{Row, tree_room, placed, cleared}
 use Rattle.grammar.specs.Languages.{Language, language17}
 use Rattle.grammar.specs.Sources.{DerivationOf, NoProgramOf, TooDeepOf}

@@ -19,41 +19,40 @@ impl Read for NoDescriptor {
     }
 }
 
+// The scripts, by their files: around the most bytes, the most tokens and the most rows.
+const SCRIPTS: [&str; 11] = [
+    "empty",
+    "bytes-65534",
+    "bytes-65535",
+    "bytes-65536",
+    "bytes-65537",
+    "tokens-4999",
+    "tokens-5000",
+    "tokens-5001",
+    "rows-3999",
+    "rows-4000",
+    "rows-4001",
+];
+
 // Prints a name on a line of its own, and below it the answer to what the reader brings.
-fn serve_named<R: Read>(rt: &impl Print, name: &[u8], input: &mut R) -> io::Result<()> {
-    rt.write_all(name)?;
-    rt.write_all(b"\n")?;
+fn serve_named<R: Read>(rt: &impl Print, name: &str, input: &mut R) -> io::Result<()> {
+    rt.println(name)?;
     replies::serve(input, &mut io::writer(rt), &mut io::writer(rt))
 }
 
-// The answer to the script in a file.
-fn serve_file(rt: &(impl Files + Print), name: &str) -> io::Result<()> {
-    match fs::open(rt, name) {
-        Ok(mut input) => serve_named(rt, name.as_bytes(), &mut input),
-        Err(_) => serve_named(rt, name.as_bytes(), &mut NoDescriptor),
-    }
-}
-
-// A directory can be opened and not read.
-fn serve_directory(rt: &(impl Files + Print)) -> io::Result<()> {
-    match fs::open(rt, ".") {
-        Ok(mut input) => serve_named(rt, b"a directory", &mut input),
-        Err(_) => serve_named(rt, b"a directory", &mut NoDescriptor),
+// The answer to what stands at a path.
+fn serve_path(rt: &(impl Files + Print), name: &str, path: &str) -> io::Result<()> {
+    match fs::open(rt, path) {
+        Ok(mut input) => serve_named(rt, name, &mut input),
+        Err(_) => serve_named(rt, name, &mut NoDescriptor),
     }
 }
 
 fn main(rt: HostRuntime) -> io::Result<()> {
-    serve_file(&rt, "empty")?;
-    serve_file(&rt, "bytes-65534")?;
-    serve_file(&rt, "bytes-65535")?;
-    serve_file(&rt, "bytes-65536")?;
-    serve_file(&rt, "bytes-65537")?;
-    serve_file(&rt, "tokens-4999")?;
-    serve_file(&rt, "tokens-5000")?;
-    serve_file(&rt, "tokens-5001")?;
-    serve_file(&rt, "rows-3999")?;
-    serve_file(&rt, "rows-4000")?;
-    serve_file(&rt, "rows-4001")?;
-    serve_directory(&rt)?;
-    serve_named(&rt, b"no descriptor", &mut NoDescriptor)
+    for name in SCRIPTS {
+        serve_path(&rt, name, name)?;
+    }
+    // A directory can be opened and not read.
+    serve_path(&rt, "a directory", ".")?;
+    serve_named(&rt, "no descriptor", &mut NoDescriptor)
 }

@@ -22,6 +22,7 @@ pub mod Table17
 pub mod Needed17
 pub mod Groups
 pub mod Groups17
+pub mod Forms
 pub mod Alternatives17
 pub mod Structs
 pub mod Sources

@@ -1,49 +1,43 @@
 // Which alternative of a nonterminal a token begins, by the token's kind.
-ghost use Rattle.std.specs.Prelude.{◌≡◌};
+ghost use Rattle.std.specs.Prelude.{◌≡◌, get_or, None};
 ghost use Rattle.grammar.specs.internal.Nonterminals.{type, expression, statement, declaration};
 ghost use Rattle.grammar.specs.internal.Alternatives.{kind_alternative};
+ghost use Rattle.grammar.specs.internal.Forms.{type_form_number, expression_form_number, statement_form_number, declaration_form_number};
 
+use crate::forms::{DeclarationForm, ExpressionForm, StatementForm, TypeForm};
 use crate::tables;
 
-// The kinds of tokens are from 1 to this one.
-const LAST_KIND: u32 = 42;
-
-// The alternative of a type that a token of a kind begins: its number in the table of productions, 0 where there is none.
-pub fn type_alternative(kind: u32) -> u8
-    ensures { result ≡ kind_alternative type kind }
+// What a table has for a token's kind. What is not a kind begins nothing.
+fn entry<F: Copy>(table: &[Option<F>; tables::SIZE], kind: u32) -> Option<F>
+    ensures { result ≡ get_or table.now kind None }
 {
-    if kind > LAST_KIND {
-        return 0;
-    }
-    tables::TYPE[kind as usize]
+    *table.get(kind as usize)?
+}
+
+// The alternative of a type that a token of a kind begins.
+pub fn type_form(kind: u32) -> Option<TypeForm>
+    ensures { type_form_number result ≡ kind_alternative type kind }
+{
+    entry(&tables::TYPE, kind)
 }
 
 // The alternative of an expression that a token of a kind begins.
-pub fn expression_alternative(kind: u32) -> u8
-    ensures { result ≡ kind_alternative expression kind }
+pub fn expression_form(kind: u32) -> Option<ExpressionForm>
+    ensures { expression_form_number result ≡ kind_alternative expression kind }
 {
-    if kind > LAST_KIND {
-        return 0;
-    }
-    tables::EXPRESSION[kind as usize]
+    entry(&tables::EXPRESSION, kind)
 }
 
 // The alternative of a statement that a token of a kind begins.
-pub fn statement_alternative(kind: u32) -> u8
-    ensures { result ≡ kind_alternative statement kind }
+pub fn statement_form(kind: u32) -> Option<StatementForm>
+    ensures { statement_form_number result ≡ kind_alternative statement kind }
 {
-    if kind > LAST_KIND {
-        return 0;
-    }
-    tables::STATEMENT[kind as usize]
+    entry(&tables::STATEMENT, kind)
 }
 
 // The alternative of a declaration that a token of a kind begins.
-pub fn declaration_alternative(kind: u32) -> u8
-    ensures { result ≡ kind_alternative declaration kind }
+pub fn declaration_form(kind: u32) -> Option<DeclarationForm>
+    ensures { declaration_form_number result ≡ kind_alternative declaration kind }
 {
-    if kind > LAST_KIND {
-        return 0;
-    }
-    tables::DECLARATION[kind as usize]
+    entry(&tables::DECLARATION, kind)
 }

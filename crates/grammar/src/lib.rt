@@ -6,6 +6,4 @@ mod alternatives;
 pub mod forms;
 mod tables;
 
-pub use alternatives::{
-    declaration_alternative, expression_alternative, statement_alternative, type_alternative,
-};
+pub use alternatives::{declaration_form, expression_form, statement_form, type_form};

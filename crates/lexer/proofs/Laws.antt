@@ -26,4 +26,5 @@ pub mod Passes
 pub mod Answers
 pub mod Examples
 pub mod Kinds
+pub mod KindNumbers
 pub mod Items

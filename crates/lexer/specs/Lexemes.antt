@@ -8,8 +8,19 @@ use Rattle.lexer.specs.Spellings.{Spelling, kind_of, longest}
 use Rattle.lexer.specs.Editions.{Edition}
 use Rattle.lexer.specs.Words.{word_length, word_kind, joins}
 use Rattle.lexer.specs.Numbers.{digits, fraction, exponent}
-use Rattle.lexer.specs.declared.Lexeme.{Lexeme}
-use Rattle.lexer.specs.declared.Lexeme.TheVariants.{End, Skipped, Token, BadByte, OpenString}
+
+-- What stands at the front of some bytes.
+pub data Lexeme : Type 0 where
+  -- nothing: there are none
+  End : Lexeme
+  -- so many bytes that make no token
+  Skipped : ℕ → Lexeme
+  -- a token of this kind and length
+  Token : ℕ → ℕ → Lexeme
+  -- a byte that begins no token, space or comment
+  BadByte : Lexeme
+  -- a string that is not closed
+  OpenString : Lexeme
 
 -- Each rule gives `BadByte` where it does not fit.
 

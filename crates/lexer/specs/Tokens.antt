@@ -4,9 +4,7 @@ use Rattle.std.specs.Prelude.{ℕ, suc, ◌+◌, ◌≡◌, true, List, [], ◌�
 use Rattle.lexer.specs.Refusals.{refusal_number}
 use Rattle.lexer.specs.Bytes.{is_space, is_in_line, run}
 use Rattle.lexer.specs.Editions.{Edition}
-use Rattle.lexer.specs.Lexemes.{lexeme}
-use Rattle.lexer.specs.declared.Lexeme.{Lexeme}
-use Rattle.lexer.specs.declared.Lexeme.TheVariants.{BadByte, OpenString}
+use Rattle.lexer.specs.Lexemes.{Lexeme, BadByte, OpenString, lexeme}
 
 -- a token: its kind, the offset of its first byte, and its size in bytes
 pub record Token : Type 0 where

@@ -25,6 +25,8 @@ pub(crate) const LETTER: u8 = 128;
 
 pub(crate) const LAST: u8 = 255;
 
+// Numbers and not an enum, since their order is asked: one comparison tells whether a word goes on over a byte, and one whether it is a
+// mark by itself alone.
 pub(crate) const ENTRIES: [u8; 256] = [
     // 0x00 on: control bytes
     122, 122, 122, 122, 122, 122, 122, 122, 122, 125, 125, 122, 122, 125, 122, 122,
@@ -60,10 +62,18 @@ pub(crate) const ENTRIES: [u8; 256] = [
     122, 122, 122, 122, 122, 122, 122, 122, 122, 122, 122, 122, 122, 122, 122, 122,
 ];
 
-// What the table says of a byte.
-pub(crate) fn entry_of(entries: &[u8; 256], b: u8) -> u8
-    requires { Entries entries.now }
-    ensures { result ≡ byte_entry b }
-{
-    entries[b as usize]
+// A table that holds the entry of every byte: a pass lends one that it has made before its loop.
+#[derive(Clone, Copy)]
+pub(crate) struct ByteTable<'a> {
+    pub(crate) entries: &'a [u8; 256],
+    ghost told: { Entries entries.now },
+}
+
+impl ByteTable<'_> {
+    // What the table says of a byte.
+    pub(crate) fn entry_of(&self, b: u8) -> u8
+        ensures { result ≡ byte_entry b }
+    {
+        self.entries[b as usize]
+    }
 }

@@ -13,17 +13,12 @@ pub fn location_at(source: &[u8], offset: usize) -> Location
 {
     let mut line = 1;
     let mut column = 1;
-    let mut i = 0;
-    while i < source.len() {
-        if i == offset {
-            return Location { line, column };
-        }
+    for b in &source[..offset.min(source.len())] {
         column += 1;
-        if source[i] == NEWLINE {
+        if *b == NEWLINE {
             line += 1;
             column = 1;
         }
-        i += 1;
     }
     Location { line, column }
 }

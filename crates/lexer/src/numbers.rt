@@ -2,8 +2,9 @@
 ghost use Rattle.std.specs.Prelude.{◌≡◌, ◌+◌, ◌-◌, ◌≤◌, ◌<◌, length, drop};
 ghost use Rattle.lexer.specs.Numbers.{fraction, sign, exponent};
 ghost use Rattle.lexer.specs.Lexemes.{number_of};
+ghost use Rattle.lexer.specs.internal.CodeLexemes.{as_lexeme};
 
-use crate::{Class, Lexeme, bytes, kinds, runs};
+use crate::{Class, Lexeme, TokenKind, bytes, runs};
 
 // Where the point and digits at `at` end, or `at` where not all of that is there.
 pub fn fraction_end(source: &[u8], at: usize) -> usize
@@ -46,12 +47,12 @@ pub fn exponent_end(source: &[u8], at: usize) -> usize
 // The number at `at`, whose digits, with a minus or without, end at `whole`.
 pub(crate) fn number_from(source: &[u8], at: usize, whole: usize) -> Lexeme
     requires { (at < whole) × (whole ≤ length source.now) }
-    ensures { result ≡ number_of (whole - at) (fraction (drop whole source.now)) (drop at source.now) }
+    ensures { as_lexeme result ≡ number_of (whole - at) (fraction (drop whole source.now)) (drop at source.now) }
 {
     let point = fraction_end(source, whole);
     if point == whole {
-        return Lexeme::Token(kinds::INT, whole - at);
+        return Lexeme::Token(TokenKind::Int, whole - at);
     }
     let end = exponent_end(source, point);
-    Lexeme::Token(kinds::FLOAT, end - at)
+    Lexeme::Token(TokenKind::Float, end - at)
 }

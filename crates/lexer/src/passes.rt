@@ -6,94 +6,95 @@ ghost use Rattle.lexer.specs.Table.{source_limit, kept};
 ghost use Rattle.lexer.specs.executable.Scans.{scan};
 ghost use Rattle.lexer.specs.internal.Leaves.{blank};
 ghost use Rattle.lexer.specs.internal.Editions.{edition_of};
-ghost use Rattle.lexer.specs.internal.Entries.{Entries, Stop};
-ghost use Rattle.lexer.specs.internal.Tokenized.{scanned, ended_by};
+ghost use Rattle.lexer.specs.internal.Entries.{Stop};
+ghost use Rattle.lexer.specs.internal.Tokenized.{as_scanned, scanned, ended_by};
 
-use crate::packed::PACKING;
+use crate::entries::ByteTable;
+use crate::packed::{PACKING, Scanner};
 use crate::table::TokenRow;
-use crate::{Edition, Lexeme, Scanned, entries, lexemes, packed, refusals, table};
+use crate::{Edition, Lexeme, Reason, Refusal, entries, lexemes, table};
 
-// The place after the blank at `at`, or `at` where none stands or nothing is known of the bytes there.
-fn after_blank(source: &[u8], at: usize, bounded: bool) -> usize
-    requires { bounded ≡ true → at < length source.now }
-    ensures { result ≡ at + pick (and bounded (eqb (get_or source.now at 0) blank)) 1 0 }
-{
-    if bounded {
-        if source[at] == b' ' {
+impl Scanner<'_, '_> {
+    // The place after the blank at `at`, or `at` where none stands or nothing is known of the bytes there, as `bounded` says.
+    fn after_blank(&self, at: usize, bounded: bool) -> usize
+        requires { bounded ≡ true → at < length self.now.source.now }
+        ensures { result ≡ at + pick (and bounded (eqb (get_or self.now.source.now at 0) blank)) 1 0 }
+    {
+        if bounded && self.source[at] == b' ' {
             return at + 1;
         }
+        at
     }
-    at
-}
 
-// What a pass answers that has met so many tokens and ends at `at`.
-fn ended(edition: Edition, source: &[u8], at: usize, count: usize) -> Scanned
-    ensures { result ≡ ended_by (lexeme (edition_of edition) (drop at source.now)) at count }
-{
-    let last = lexemes::lexeme_at(edition, source, at);
-    match last {
-        Lexeme::BadByte => Scanned::Refused(refusals::BAD_BYTE, at),
-        Lexeme::OpenString => Scanned::Refused(refusals::OPEN_STRING, at),
-        _ => Scanned::Tokens(count),
+    // What a pass answers that has met so many tokens and ends at `at`.
+    fn ended(&self, edition: Edition, at: usize, count: usize) -> Result<usize, Refusal>
+        ensures { as_scanned result ≡ ended_by (lexeme (edition_of edition) (drop at self.now.source.now)) at count }
+    {
+        let last = lexemes::lexeme_at(edition, self.source, at);
+        match last {
+            Lexeme::BadByte => Err(Refusal::new(Reason::BadByte, at)),
+            Lexeme::OpenString => Err(Refusal::new(Reason::OpenString, at)),
+            _ => Ok(count),
+        }
     }
-}
 
-// The pass, lexeme by lexeme. A word that stands before or at `stop` ends before the source does.
-fn scan_lexemes(
-    edition: Edition,
-    source: &[u8],
-    entries: &[u8; 256],
-    stop: usize,
-    table: &mut [u32],
-) -> Scanned
-    requires { (length source.now ≤ source_limit) × Entries entries.now × Stop source.now stop }
-    ensures value { result ≡ scanned (scan (edition_of edition) source.now) }
-    ensures table_after { table.new ≡ kept source.now (scan (edition_of edition) source.now).found table.old }
-{
-    let mut at = 0;
-    let mut count = 0;
-    loop {
-        let bounded = at < stop;
-        let from = after_blank(source, at, bounded);
-        let found = packed::packed_lexeme(edition, source, entries, from, bounded);
-        let end = (found % PACKING) as usize;
-        let kind = (found / PACKING) as u32;
-        if kind == 0 {
-            if end == 0 {
-                return ended(edition, source, from, count);
+    // The pass, lexeme by lexeme. A word that stands before or at `stop` ends before the source does. Each turn goes on where its lexeme
+    // ends, so that this is a `loop` with a place and no `for`.
+    fn scan_lexemes(
+        &self,
+        edition: Edition,
+        stop: usize,
+        table: &mut [u32],
+    ) -> Result<usize, Refusal>
+        requires { Stop self.now.source.now stop }
+        ensures value { as_scanned result ≡ scanned (scan (edition_of edition) self.now.source.now) }
+        ensures table_after { table.new
+            ≡ kept self.now.source.now (scan (edition_of edition) self.now.source.now).found table.old }
+    {
+        let mut at = 0;
+        let mut count = 0;
+        loop {
+            let bounded = at < stop;
+            let from = self.after_blank(at, bounded);
+            let found = self.packed_lexeme(edition, from, bounded);
+            let end = (found % PACKING) as usize;
+            let kind = (found / PACKING) as u32;
+            if kind == 0 {
+                if end == 0 {
+                    return self.ended(edition, from, count);
+                }
+            } else {
+                let start = from as u32;
+                let size = (end - from) as u32;
+                table::put_token(table, count, TokenRow { kind, start, size });
+                count += 1;
             }
-        } else {
-            let start = from as u32;
-            let size = (end - from) as u32;
-            table::put_token(table, count, TokenRow { kind, start, size });
-            count += 1;
+            at = end;
         }
-        at = end;
     }
-}
 
-// The place of the last byte over which no word goes on, or 0.
-fn last_stop(source: &[u8], entries: &[u8; 256]) -> usize
-    requires { Entries entries.now }
-    ensures { Stop source.now result }
-{
-    let mut i = source.len();
-    while 0 < i {
-        i -= 1;
-        if entries::entry_of(entries, source[i]) < entries::DIGIT {
-            return i;
-        }
+    // The place of the last byte over which no word goes on, or 0.
+    fn last_stop(&self) -> usize
+        ensures { Stop self.now.source.now result }
+    {
+        self.source
+            .iter()
+            .rposition(|b| self.entries.entry_of(*b) < entries::DIGIT)
+            .unwrap_or(0)
     }
-    0
 }
 
 // A pass over a source.
-pub(crate) fn scan(edition: Edition, source: &[u8], table: &mut [u32]) -> Scanned
+pub(crate) fn scan(edition: Edition, source: &[u8], table: &mut [u32]) -> Result<usize, Refusal>
     requires { length source.now ≤ source_limit }
-    ensures value { result ≡ scanned (scan (edition_of edition) source.now) }
+    ensures value { as_scanned result ≡ scanned (scan (edition_of edition) source.now) }
     ensures table_after { table.new ≡ kept source.now (scan (edition_of edition) source.now).found table.old }
 {
-    let entries = entries::ENTRIES;
-    let stop = last_stop(source, &entries);
-    scan_lexemes(edition, source, &entries, stop, table)
+    let table_of_bytes = entries::ENTRIES;
+    let entries = ByteTable {
+        entries: &table_of_bytes,
+    };
+    let scanner = Scanner { source, entries };
+    let stop = scanner.last_stop();
+    scanner.scan_lexemes(edition, stop, table)
 }

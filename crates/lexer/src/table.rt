@@ -1,8 +1,10 @@
 // The token table: the one place that knows how wide its rows are.
-ghost use Rattle.std.specs.Prelude.{◌≡◌, ◌<◌, get_or};
-ghost use Rattle.lexer.specs.Table.{token_width, token_room};
-ghost use Rattle.lexer.specs.internal.TokenRows.{row_at, kind_at, start_at, size_at};
-ghost use Rattle.lexer.specs.internal.Leaves.{row_numbers, own_numbers, written};
+ghost use Rattle.std.specs.Prelude.{◌≡◌};
+ghost use Rattle.lexer.specs.Table.{token_room};
+ghost use Rattle.lexer.specs.internal.TokenRows.{kind_at, start_at, size_at};
+ghost use Rattle.lexer.specs.internal.Leaves.{row_numbers, written};
+
+use crate::rows;
 
 // How many numbers a row has.
 pub const WIDTH: usize = 3;
@@ -19,50 +21,33 @@ pub struct TokenRow {
 pub fn room(table: &[u32]) -> usize
     ensures { result ≡ token_room table.now }
 {
-    table.len() / WIDTH
-}
-
-// The number in a column of a row, 0 past the whole rows.
-fn entry_at(table: &[u32], row: usize, column: usize) -> u32
-    requires { column < token_width }
-    ensures { result ≡ get_or (own_numbers (row_at table.now row)) column 0 }
-{
-    if row < table.len() / WIDTH {
-        return table[row * WIDTH + column];
-    }
-    0
+    rows::room::<WIDTH>(table)
 }
 
 // The kind of a token, 0 past the whole rows.
 pub fn kind_at(table: &[u32], row: usize) -> u32
     ensures { result ≡ kind_at table.now row }
 {
-    entry_at(table, row, 0)
+    rows::number_at::<WIDTH>(table, row, 0)
 }
 
 // The offset of a token's first byte.
 pub fn start_at(table: &[u32], row: usize) -> u32
     ensures { result ≡ start_at table.now row }
 {
-    entry_at(table, row, 1)
+    rows::number_at::<WIDTH>(table, row, 1)
 }
 
 // How many bytes a token has.
 pub fn size_at(table: &[u32], row: usize) -> u32
     ensures { result ≡ size_at table.now row }
 {
-    entry_at(table, row, 2)
+    rows::number_at::<WIDTH>(table, row, 2)
 }
 
 // Writes a token's row where the table has it, and nothing where it has not.
 pub fn put_token(table: &mut [u32], row: usize, token: TokenRow)
     ensures { table.new ≡ written table.old row (row_numbers token) }
 {
-    let rows = table.len() / WIDTH;
-    if row < rows {
-        let at = row * WIDTH;
-        table[at] = token.kind;
-        table[at + 1] = token.start;
-        table[at + 2] = token.size;
-    }
+    rows::put::<WIDTH>(table, row, [token.kind, token.start, token.size]);
 }

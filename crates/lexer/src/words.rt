@@ -2,18 +2,18 @@
 ghost use Rattle.std.specs.Prelude.{◌≡◌, ◌+◌, ◌-◌, ◌≤◌, drop};
 ghost use Rattle.lexer.specs.internal.Kinds.{ident};
 ghost use Rattle.lexer.specs.Words.{word_length, ident_length, two_colons, joins};
-ghost use Rattle.lexer.specs.Lexemes.{word};
+ghost use Rattle.lexer.specs.Lexemes.{Token, word};
+ghost use Rattle.lexer.specs.internal.CodeLexemes.{as_lexeme};
 
-use crate::{Class, Lexeme, bytes, kinds, runs};
+use crate::bytes::ByteClass;
+use crate::{Class, Lexeme, TokenKind, bytes, runs};
 
 // Where the word at `at` ends, or `at` where there is none.
 pub fn word_end(source: &[u8], at: usize) -> usize
     ensures { result ≡ at + word_length (drop at source.now) }
 {
-    if at < source.len() {
-        if bytes::class_of(source[at]) == bytes::LETTER {
-            return runs::run_end(source, at + 1, Class::Word);
-        }
+    if at < source.len() && bytes::class_of(source[at]) == ByteClass::Letter {
+        return runs::run_end(source, at + 1, Class::Word);
     }
     at
 }
@@ -23,10 +23,7 @@ fn ident_end(source: &[u8], at: usize) -> usize
     ensures { result ≡ at + ident_length (drop at source.now) }
 {
     let end = word_end(source, at);
-    if end - at == 1 {
-        if bytes::letter_kind(source[at]) == kinds::IDENT {
-            return end;
-        }
+    if end - at == 1 && bytes::letter_kind(source[at]) != TokenKind::Ident {
         return at;
     }
     end
@@ -36,18 +33,10 @@ fn ident_end(source: &[u8], at: usize) -> usize
 pub fn two_colons(source: &[u8], at: usize) -> bool
     ensures { result ≡ two_colons (drop at source.now) }
 {
-    if at < source.len() {
-        if source[at] == b':' {
-            let next = at + 1;
-            if next < source.len() {
-                return source[next] == b':';
-            }
-        }
-    }
-    false
+    bytes::byte_at(source, at) == b':' && bytes::byte_at(source, at + 1) == b':'
 }
 
-// Where an IDENT that ends at `end` ends with all that joins it.
+// Where an IDENT that ends at `end` ends with all that joins it. The place goes on by the length of each part, so no `for` fits.
 pub(crate) fn joins_end(source: &[u8], end: usize) -> usize
     ensures { result ≡ end + joins (drop end source.now) }
 {
@@ -66,15 +55,15 @@ pub(crate) fn joins_end(source: &[u8], end: usize) -> usize
 // The IDENT from `at` to `end` with all that joins it.
 fn joined(source: &[u8], at: usize, end: usize) -> Lexeme
     requires { at ≤ end }
-    ensures { result ≡ Lexeme.Token ident (end - at + joins (drop end source.now)) }
+    ensures { as_lexeme result ≡ Token ident (end - at + joins (drop end source.now)) }
 {
     let last = joins_end(source, end);
-    Lexeme::Token(kinds::IDENT, last - at)
+    Lexeme::Token(TokenKind::Ident, last - at)
 }
 
 // The word at `at`.
 pub fn word_at(source: &[u8], at: usize) -> Lexeme
-    ensures { result ≡ word (drop at source.now) }
+    ensures { as_lexeme result ≡ word (drop at source.now) }
 {
     let end = word_end(source, at);
     if end == at {
@@ -82,10 +71,9 @@ pub fn word_at(source: &[u8], at: usize) -> Lexeme
     }
     if end - at == 1 {
         let kind = bytes::letter_kind(source[at]);
-        if kind != kinds::IDENT {
+        if kind != TokenKind::Ident {
             return Lexeme::Token(kind, 1);
         }
-        return joined(source, at, end);
     }
     joined(source, at, end)
 }

@@ -1,13 +1,11 @@
 -- The text of an answer, as the desk program prints it, and what a lent output holds when a text is written into it.
 use Prim.Native.Char.{code}
-use Rattle.std.specs.Prelude.{ℕ, zero, suc, ◌+◌, ◌/◌, ◌%◌, min, List, [], ◌∷◌, ◌++◌, leb, ltb, length, take, drop}
+use Rattle.std.specs.Prelude.{ℕ, zero, suc, ◌+◌, ◌/◌, ◌%◌, min, List, [], ◌∷◌, ◌++◌, leb, ltb, length, take, drop, Option, Some, None}
 use Rattle.lexer.specs.Tests.{pick}
 use Rattle.lexer.specs.Text.{bytes}
 use Rattle.tree.specs.TreeTable.{Row, tree_room, tree_row_at}
 use Rattle.answer.specs.declared.Answer.{Answer}
 use Rattle.answer.specs.declared.Answer.TheVariants.{Accepted, Refused}
-use Rattle.nurl.specs.declared.Written.{Written}
-use Rattle.nurl.specs.declared.Written.TheVariants.{Whole, Cut}
 
 -- the digit of a number below ten
 abbrev pub digit : ℕ → ℕ
@@ -55,14 +53,14 @@ unfoldable pub answer_text : Answer → List ℕ → List ℕ
 answer_text (Accepted tokens rows) table = line (bytes "accepted ") tokens rows ++ row_lines table (min rows (tree_room table))
 answer_text (Refused number_text place) table = line (bytes "refused ") number_text place
 
--- how much of a text is written into so many bytes
-unfoldable pub written : List ℕ → ℕ → Written
-written text room = pick (leb (length text) room) (Whole (length text)) Cut
+-- how much of a text is written into so many bytes: all of it, of that size, or only its front
+unfoldable pub written : List ℕ → ℕ → Option ℕ
+written text room = pick (leb (length text) room) (Some (length text)) None
 
 -- how many bytes of an output with so much room hold a text, by how much of it is written
-unfoldable pub bytes_written : Written → ℕ → ℕ
-bytes_written (Whole size) room = size
-bytes_written Cut room = room
+unfoldable pub bytes_written : Option ℕ → ℕ → ℕ
+bytes_written (Some size) room = size
+bytes_written None room = room
 
 -- an output that a text was written into: as much of the text as it has room for, and what it held after that
 unfoldable pub overwritten : List ℕ → List ℕ → List ℕ

@@ -10,12 +10,12 @@ ghost use Rattle.grammar.specs.Languages.{language17};
 ghost use Rattle.answer.specs.executable.Answers.{answer17, answer_values};
 ghost use Rattle.answer.specs.Results.{level_limit, values, Result};
 ghost use Rattle.answer.specs.Demands.{Demands};
-ghost use Rattle.nurl.specs.internal.Results.{tree_result};
+ghost use Rattle.nurl.specs.internal.Results.{tree_result, answered};
 
 use answer::Answer;
-use lexer::{Edition, Scanned, refusals};
-use parser::Step;
-use typenames::{Checked, PREPARED_LIMIT, Scope};
+use lexer::{Edition, Reason, Refusal};
+use parser::Place;
+use typenames::{PREPARED_LIMIT, Scope};
 
 // The most levels that rows may be nested: "where that row would be at level 201" it is too deep.
 const LEVEL_LIMIT: usize = 200;
@@ -28,12 +28,17 @@ fn names_buffer() -> [u8; PREPARED_LIMIT]
     [0; PREPARED_LIMIT]
 }
 
-// Refusals 6 to 8 or acceptance, for the tokens of a source in a table that holds nothing else.
-fn read_tokens(source: &[u8], names: &[u8], tokens: &[u32], rows: &mut [u32]) -> Answer
+// Refusals 6 to 8, or the place after the last token and the last row, for the tokens of a source in a table that holds nothing else.
+fn read_tokens(
+    source: &[u8],
+    names: &[u8],
+    tokens: &[u32],
+    rows: &mut [u32],
+) -> Result<Place, Refusal>
     requires source_len_bound { length source.now ≤ source_limit }
     requires names_len_bound { length names.now ≤ name_limit }
     requires source_value { scan edition17 source.now ≡ cleanly (rows_of tokens.now) }
-    ensures answer { result
+    ensures answer { answered result
         ≡ (tree_result source.now names.now tokens.now rows.old).answer }
     ensures table { rows.new
         ≡ (tree_result source.now names.now tokens.now rows.old).rows }
@@ -41,24 +46,44 @@ fn read_tokens(source: &[u8], names: &[u8], tokens: &[u32], rows: &mut [u32]) ->
     let mut buffer = names_buffer();
     let size = typenames::SLOTS + names.len();
     typenames::prepare(source, names, tokens, &mut buffer[..size]);
-    let step = parser::read_program(
+    let reached = parser::read_program(
         source,
         &buffer[..size],
         tokens,
         rows,
         Scope::Program,
         LEVEL_LIMIT,
-    );
-    match step {
-        Step::Refused(number, place) => Answer::Refused(number, place),
-        Step::Read(count, needed) => {
-            if tree::room(rows) < needed {
-                tree::clear(rows);
-                return Answer::Refused(refusals::FEW_TREE_ROWS, needed);
-            }
-            Answer::Accepted(count, needed)
-        }
+    )?;
+    if tree::room(rows) < reached.row {
+        tree::clear(rows);
+        return Err(Refusal {
+            reason: Reason::FewTreeRows,
+            place: reached.row,
+        });
     }
+    Ok(reached)
+}
+
+// The refusals in their order, or the place after the last token and the last row.
+fn read_source(
+    source: &[u8],
+    names: &[u8],
+    tokens: &mut [u32],
+    rows: &mut [u32],
+) -> Result<Place, Refusal>
+    ensures { ◌≡◌ {A = Result} (record { answer = answered result; tokens = tokens.new; rows = rows.new })
+        (answer17 source.now names.now tokens.old rows.old) }
+{
+    if lexer::SOURCE_LIMIT < source.len() {
+        return Err(Refusal {
+            reason: Reason::LongSource,
+            place: 0,
+        });
+    }
+    typenames::check_names(names)?;
+    let count = lexer::tokenize(Edition::V17, source, tokens)?;
+    let end = count * lexer::WIDTH;
+    read_tokens(source, names, &tokens[..end], rows)
 }
 
 // Reads a source with a list of extra type names into two lent tables. Any bytes, any list and any tables get an answer. What is promised
@@ -72,21 +97,8 @@ pub fn read(source: &[u8], names: &[u8], tokens: &mut [u32], rows: &mut [u32]) -
     ensures values { values result
         ≡ answer_values source.now names.now tokens.old rows.old }
 {
-    if lexer::SOURCE_LIMIT < source.len() {
-        return Answer::Refused(refusals::LONG_SOURCE, 0);
-    }
-    let checked = typenames::check_names(names);
-    match checked {
-        Checked::Refused(number, place) => Answer::Refused(number, place),
-        Checked::Good => {
-            let scanned = lexer::tokenize(Edition::V17, source, tokens);
-            match scanned {
-                Scanned::Refused(number, place) => Answer::Refused(number, place),
-                Scanned::Tokens(count) => {
-                    let end = count * lexer::WIDTH;
-                    read_tokens(source, names, &tokens[..end], rows)
-                }
-            }
-        }
+    match read_source(source, names, tokens, rows) {
+        Ok(place) => Answer::Accepted(place.token, place.row),
+        Err(refusal) => Answer::from(refusal),
     }
 }

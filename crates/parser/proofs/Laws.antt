@@ -5,6 +5,7 @@ pub mod After
 pub mod Views
 pub mod Kinds
 pub mod Readers
+pub mod Results
 pub mod Loops
 pub mod Options
 pub mod Openings

@@ -1,4 +1,6 @@
 // The readers of declarations, and of a whole program.
+#![tactic(auto, using(crate::proofs::Laws::Results::wide))]
+
 ghost use Rattle.std.specs.Prelude.{◌≡◌, true, false, [], ◌∷◌, ℕ, ◌<◌, eqb};
 ghost use Rattle.lexer.specs.internal.Kinds.{at as atSign, bar};
 ghost use Rattle.tree.specs.TreeTable.{cleared};
@@ -9,447 +11,325 @@ ghost use Rattle.grammar.specs.internal.Alternatives.{kind_alternative};
 ghost use Rattle.grammar.specs.internal.Nonterminals.{declaration as aDeclaration, functions as functionList, function as aFunction};
 ghost use Rattle.grammar.specs.internal.Nonterminals.{methods as methodList, method as aMethod, variants as variantList};
 ghost use Rattle.grammar.specs.internal.Nonterminals.{variant as aVariant, payload_types, program as aProgram};
-ghost use Rattle.parser.specs.internal.Steps.{Tokens, Within, next_kind, begins_part, asked_at, AnswersKinds, payload_begins, opened};
-ghost use Rattle.parser.specs.internal.Readings.{names_in, ReadsIn, ReadsKinds, ReadsAll, ReadsWhole};
-ghost use Rattle.parser.specs.declared.Step.TheVariants.{Refused};
+ghost use Rattle.parser.specs.internal.Steps.{Tokens, Refused, step_at, step_of, next_kind, begins_part, asked_at, AnswersKinds, payload_begins};
+ghost use Rattle.parser.specs.internal.Steps.{opened};
+ghost use Rattle.parser.specs.internal.Readings.{ReadsAll, ReadsWhole};
+ghost use Rattle.parser.specs.internal.Readers.{Stands, Arrives, ReadsBy, ReadsKindsBy, names_of};
 
-use crate::{Step, expressions, questions, steps, types, words};
-use grammar::forms;
-use lexer::kinds;
-use tree::row_kinds;
+use crate::Place;
+use crate::reading::Reading;
+use crate::steps::close_row;
+use crate::words::Words;
+use grammar::forms::DeclarationForm;
+use lexer::{Refusal, TokenKind};
+use tree::RowKind;
 use typenames::Scope;
 
-// Whether the next token begins a declaration.
-fn begins_declaration(tokens: &[u32], step: Step) -> bool
-    ensures { result ≡ begins_part aDeclaration tokens.now step }
-{
-    let kind = steps::next_kind(tokens, step);
-    0 < grammar::declaration_alternative(kind)
-}
+// The kind of the place after the last token.
+const END: u32 = 0;
 
-// A declaration.
-fn declaration(
-    source: &[u8],
-    prepared: &[u8],
-    tokens: &[u32],
-    rows: &mut [u32],
-    scope: Scope,
-    from: Step,
-    left: usize,
-) -> Step
-    requires tokens { Tokens tokens.now }
-    requires within { Within tokens.now 1 from }
-    ensures { ReadsIn source.now prepared.now tokens.now scope left 1 aDeclaration
-        from rows.old result rows.new }
-{
-    let kind = steps::next_kind(tokens, from);
-    let form = grammar::declaration_alternative(kind);
-    if form == 0 {
-        return steps::refuse(from, steps::NO_PROGRAM);
+impl Reading<'_> {
+    // Whether the next token begins a declaration.
+    fn begins_declaration(&self, from: Place) -> bool
+        ensures { result ≡ begins_part aDeclaration self.now.tokens.now (step_at from) }
+    {
+        grammar::declaration_form(self.kind(from)).is_some()
     }
-    if left == 0 {
-        return steps::refuse(from, steps::TOO_DEEP);
-    }
-    match form {
-        forms::DECLARATION_IMPORT => import(tokens, rows, from, left),
-        forms::DECLARATION_FOREIGN => foreign(tokens, rows, from, left),
-        forms::DECLARATION_FUNCTION => function(source, prepared, tokens, rows, scope, from, left),
-        forms::DECLARATION_DEFINITION => definition(
-            source, prepared, tokens, rows, scope, from, left,
-        ),
-        _ => interface(source, prepared, tokens, rows, scope, from, left),
-    }
-}
 
-// An import.
-fn import(tokens: &[u32], rows: &mut [u32], from: Step, left: usize) -> Step
-    requires tokens { Tokens tokens.now }
-    requires within { Within tokens.now 1 from }
-    requires left_nonzero { 0 < left }
-    requires from_value { kind_alternative aDeclaration (next_kind tokens.now from) ≡ 1 }
-    ensures { ReadsKinds tokens.now left 1 aDeclaration from rows.old result rows.new }
-{
-    let opened = steps::open_row(from);
-    let sourced = steps::take(tokens, opened, kinds::STRING);
-    let named = steps::take_if(tokens, sourced, kinds::IDENT);
-    steps::close_row(rows, from, named, row_kinds::IMPORT)
-}
-
-// A foreign function.
-fn foreign(tokens: &[u32], rows: &mut [u32], from: Step, left: usize) -> Step
-    requires tokens { Tokens tokens.now }
-    requires within { Within tokens.now 1 from }
-    requires left_nonzero { 0 < left }
-    requires from_value { kind_alternative aDeclaration (next_kind tokens.now from) ≡ 2 }
-    ensures { ReadsKinds tokens.now left 1 aDeclaration from rows.old result rows.new }
-{
-    let opened = steps::open_row(from);
-    let sourced = steps::take(tokens, opened, kinds::STRING);
-    let marked = steps::take(tokens, sourced, kinds::AT);
-    let named = steps::take(tokens, marked, kinds::IDENT);
-    let listed = types::fields(tokens, rows, named, left - 1);
-    let arrowed = steps::take(tokens, listed, kinds::ARROW);
-    let typed = types::read_type(tokens, rows, arrowed, left - 1);
-    steps::close_row(rows, from, typed, row_kinds::FOREIGN)
-}
-
-// A function.
-fn function(
-    source: &[u8],
-    prepared: &[u8],
-    tokens: &[u32],
-    rows: &mut [u32],
-    scope: Scope,
-    from: Step,
-    left: usize,
-) -> Step
-    requires tokens { Tokens tokens.now }
-    requires within { Within tokens.now 1 from }
-    requires from_value { next_kind tokens.now from ≡ atSign }
-    ensures { ReadsIn source.now prepared.now tokens.now scope left 1 aFunction
-        from rows.old result rows.new }
-{
-    if left == 0 {
-        return steps::refuse(from, steps::TOO_DEEP);
+    // A declaration.
+    fn declaration(&self, rows: &mut [u32], from: Place, left: usize) -> Result<Place, Refusal>
+        requires { Stands self.now 1 from }
+        ensures reads { ReadsBy self.now left 1 aDeclaration from rows.old result rows.new }
+        ensures arrives { Arrives self.now result }
+    {
+        let Some(form) = grammar::declaration_form(self.kind(from)) else {
+            return Err(from.no_program());
+        };
+        if left == 0 {
+            return Err(from.too_deep());
+        }
+        match form {
+            DeclarationForm::Import => self.import(rows, from, left),
+            DeclarationForm::Foreign => self.foreign(rows, from, left),
+            DeclarationForm::Function => self.function(rows, from, left),
+            DeclarationForm::Definition => self.definition(rows, from, left),
+            DeclarationForm::Interface => self.interface(rows, from, left),
+        }
     }
-    let opened = steps::open_row(from);
-    let named = steps::take(tokens, opened, kinds::IDENT);
-    let listed = words::optional_list(tokens, rows, named, left - 1, false);
-    let given = types::parameters(tokens, rows, listed, left - 1);
-    let arrowed = steps::take(tokens, given, kinds::ARROW);
-    let typed = types::read_type(tokens, rows, arrowed, left - 1);
-    let ended = expressions::block(source, prepared, tokens, rows, scope, typed, left - 1);
-    steps::close_row(rows, from, ended, row_kinds::FUNCTION)
-}
 
-// As many functions as there are.
-fn functions(
-    source: &[u8],
-    prepared: &[u8],
-    tokens: &[u32],
-    rows: &mut [u32],
-    scope: Scope,
-    from: Step,
-    left: usize,
-) -> Step
-    requires tokens { Tokens tokens.now }
-    requires within { Within tokens.now 0 from }
-    ensures { ReadsIn source.now prepared.now tokens.now scope left 0 functionList
-        from rows.old result rows.new }
-{
-    let mut step = from;
-    while steps::next_is(tokens, step, kinds::AT) {
-        step = function(source, prepared, tokens, rows, scope, step, left);
+    // An import.
+    fn import(&self, rows: &mut [u32], from: Place, left: usize) -> Result<Place, Refusal>
+        requires stands { Stands self.now 1 from }
+        requires left_nonzero { 0 < left }
+        requires form { kind_alternative aDeclaration (next_kind self.now.tokens.now (step_at from)) ≡ 1 }
+        ensures reads { ReadsKindsBy self.now left 1 aDeclaration from rows.old result rows.new }
+        ensures arrives { Arrives self.now result }
+    {
+        let opened = self.open(from);
+        let sourced = self.take(opened, TokenKind::String)?;
+        let named = self.take_if(sourced, TokenKind::Ident);
+        Ok(close_row(rows, from, named, RowKind::Import))
     }
-    step
-}
 
-// A method of a trait: a function, or the header of one.
-fn method(
-    source: &[u8],
-    prepared: &[u8],
-    tokens: &[u32],
-    rows: &mut [u32],
-    scope: Scope,
-    from: Step,
-    left: usize,
-) -> Step
-    requires tokens { Tokens tokens.now }
-    requires within { Within tokens.now 1 from }
-    requires from_value { next_kind tokens.now from ≡ atSign }
-    ensures { ReadsIn source.now prepared.now tokens.now scope left 1 aMethod
-        from rows.old result rows.new }
-{
-    if left == 0 {
-        return steps::refuse(from, steps::TOO_DEEP);
+    // A foreign function.
+    fn foreign(&self, rows: &mut [u32], from: Place, left: usize) -> Result<Place, Refusal>
+        requires stands { Stands self.now 1 from }
+        requires left_nonzero { 0 < left }
+        requires form { kind_alternative aDeclaration (next_kind self.now.tokens.now (step_at from)) ≡ 2 }
+        ensures reads { ReadsKindsBy self.now left 1 aDeclaration from rows.old result rows.new }
+        ensures arrives { Arrives self.now result }
+    {
+        let opened = self.open(from);
+        let sourced = self.take(opened, TokenKind::String)?;
+        let marked = self.take(sourced, TokenKind::At)?;
+        let named = self.take(marked, TokenKind::Ident)?;
+        let listed = self.fields(rows, named, left - 1)?;
+        let arrowed = self.take(listed, TokenKind::Arrow)?;
+        let typed = self.read_type(rows, arrowed, left - 1)?;
+        Ok(close_row(rows, from, typed, RowKind::Foreign))
     }
-    let opened = steps::open_row(from);
-    let named = steps::take(tokens, opened, kinds::IDENT);
-    let listed = words::optional_list(tokens, rows, named, left - 1, false);
-    let given = types::parameters(tokens, rows, listed, left - 1);
-    let arrowed = steps::take(tokens, given, kinds::ARROW);
-    let typed = types::read_type(tokens, rows, arrowed, left - 1);
-    if steps::next_is(tokens, typed, kinds::LEFT_BRACE) {
-        let ended = expressions::block(source, prepared, tokens, rows, scope, typed, left - 1);
-        return steps::close_row(rows, from, ended, row_kinds::FUNCTION);
-    }
-    steps::close_row(rows, from, typed, row_kinds::HEADER)
-}
 
-// As many methods as there are.
-fn methods(
-    source: &[u8],
-    prepared: &[u8],
-    tokens: &[u32],
-    rows: &mut [u32],
-    scope: Scope,
-    from: Step,
-    left: usize,
-) -> Step
-    requires tokens { Tokens tokens.now }
-    requires within { Within tokens.now 0 from }
-    ensures { ReadsIn source.now prepared.now tokens.now scope left 0 methodList
-        from rows.old result rows.new }
-{
-    let mut step = from;
-    while steps::next_is(tokens, step, kinds::AT) {
-        step = method(source, prepared, tokens, rows, scope, step, left);
+    // A function.
+    fn function(&self, rows: &mut [u32], from: Place, left: usize) -> Result<Place, Refusal>
+        requires stands { Stands self.now 1 from }
+        requires at_sign { next_kind self.now.tokens.now (step_at from) ≡ atSign }
+        ensures reads { ReadsBy self.now left 1 aFunction from rows.old result rows.new }
+        ensures arrives { Arrives self.now result }
+    {
+        if left == 0 {
+            return Err(from.too_deep());
+        }
+        let opened = self.open(from);
+        let named = self.take(opened, TokenKind::Ident)?;
+        let listed = self.optional_list(rows, named, left - 1, Words::Plain)?;
+        let given = self.parameters(rows, listed, left - 1)?;
+        let arrowed = self.take(given, TokenKind::Arrow)?;
+        let typed = self.read_type(rows, arrowed, left - 1)?;
+        let ended = self.block(rows, typed, left - 1)?;
+        Ok(close_row(rows, from, ended, RowKind::Function))
     }
-    step
-}
 
-// A trait, or the implementation of one for a type.
-fn interface(
-    source: &[u8],
-    prepared: &[u8],
-    tokens: &[u32],
-    rows: &mut [u32],
-    scope: Scope,
-    from: Step,
-    left: usize,
-) -> Step
-    requires tokens { Tokens tokens.now }
-    requires within { Within tokens.now 1 from }
-    requires left_nonzero { 0 < left }
-    requires from_value { kind_alternative aDeclaration (next_kind tokens.now from) ≡ 5 }
-    ensures { ReadsIn source.now prepared.now tokens.now scope left 1 aDeclaration
-        from rows.old result rows.new }
-{
-    let opened = steps::open_row(from);
-    let named = steps::take(tokens, opened, kinds::IDENT);
-    let listed = words::optional_list(tokens, rows, named, left - 1, false);
-    if steps::next_is(tokens, listed, kinds::LEFT_BRACE) {
-        let braced = steps::take(tokens, listed, kinds::LEFT_BRACE);
-        let held = methods(source, prepared, tokens, rows, scope, braced, left - 1);
-        let ended = steps::take(tokens, held, kinds::RIGHT_BRACE);
-        return steps::close_row(rows, from, ended, row_kinds::TRAIT);
+    // As many functions as there are.
+    fn functions(&self, rows: &mut [u32], from: Place, left: usize) -> Result<Place, Refusal>
+        requires { Stands self.now 0 from }
+        ensures reads { ReadsBy self.now left 0 functionList from rows.old result rows.new }
+        ensures arrives { Arrives self.now result }
+    {
+        let mut place = from;
+        while self.next_is(place, TokenKind::At) {
+            place = self.function(rows, place, left)?;
+        }
+        Ok(place)
     }
-    let typed = types::read_type(tokens, rows, listed, left - 1);
-    let braced = steps::take(tokens, typed, kinds::LEFT_BRACE);
-    let held = functions(source, prepared, tokens, rows, scope, braced, left - 1);
-    let ended = steps::take(tokens, held, kinds::RIGHT_BRACE);
-    steps::close_row(rows, from, ended, row_kinds::IMPL)
-}
 
-// A struct, an enum or a constant, by what follows its `:`.
-fn definition(
-    source: &[u8],
-    prepared: &[u8],
-    tokens: &[u32],
-    rows: &mut [u32],
-    scope: Scope,
-    from: Step,
-    left: usize,
-) -> Step
-    requires tokens { Tokens tokens.now }
-    requires within { Within tokens.now 1 from }
-    requires left_nonzero { 0 < left }
-    requires from_value { kind_alternative aDeclaration (next_kind tokens.now from) ≡ 4 }
-    ensures { ReadsIn source.now prepared.now tokens.now scope left 1 aDeclaration
-        from rows.old result rows.new }
-{
-    let opened = steps::open_row(from);
-    if questions::opens_struct(tokens, opened) {
-        return structure(tokens, rows, from, left);
+    // A method of a trait: a function, or the header of one.
+    fn method(&self, rows: &mut [u32], from: Place, left: usize) -> Result<Place, Refusal>
+        requires stands { Stands self.now 1 from }
+        requires at_sign { next_kind self.now.tokens.now (step_at from) ≡ atSign }
+        ensures reads { ReadsBy self.now left 1 aMethod from rows.old result rows.new }
+        ensures arrives { Arrives self.now result }
+    {
+        if left == 0 {
+            return Err(from.too_deep());
+        }
+        let opened = self.open(from);
+        let named = self.take(opened, TokenKind::Ident)?;
+        let listed = self.optional_list(rows, named, left - 1, Words::Plain)?;
+        let given = self.parameters(rows, listed, left - 1)?;
+        let arrowed = self.take(given, TokenKind::Arrow)?;
+        let typed = self.read_type(rows, arrowed, left - 1)?;
+        if self.next_is(typed, TokenKind::LeftBrace) {
+            let ended = self.block(rows, typed, left - 1)?;
+            return Ok(close_row(rows, from, ended, RowKind::Function));
+        }
+        Ok(close_row(rows, from, typed, RowKind::Header))
     }
-    if steps::next_is(tokens, opened, kinds::BAR) {
-        return enumeration(source, prepared, tokens, rows, scope, from, left);
+
+    // As many methods as there are.
+    fn methods(&self, rows: &mut [u32], from: Place, left: usize) -> Result<Place, Refusal>
+        requires { Stands self.now 0 from }
+        ensures reads { ReadsBy self.now left 0 methodList from rows.old result rows.new }
+        ensures arrives { Arrives self.now result }
+    {
+        let mut place = from;
+        while self.next_is(place, TokenKind::At) {
+            place = self.method(rows, place, left)?;
+        }
+        Ok(place)
     }
-    constant(tokens, rows, from, left)
-}
 
-// A struct.
-fn structure(tokens: &[u32], rows: &mut [u32], from: Step, left: usize) -> Step
-    requires tokens { Tokens tokens.now }
-    requires within { Within tokens.now 1 from }
-    requires left_nonzero { 0 < left }
-    requires from_value { kind_alternative aDeclaration (next_kind tokens.now from) ≡ 4 }
-    requires answers_kinds { AnswersKinds (query opens_struct) tokens.now (opened from) true }
-    ensures { ReadsKinds tokens.now left 1 aDeclaration from rows.old result rows.new }
-{
-    let opened = steps::open_row(from);
-    let named = steps::take(tokens, opened, kinds::IDENT);
-    let listed = words::optional_list(tokens, rows, named, left - 1, false);
-    let braced = steps::take(tokens, listed, kinds::LEFT_BRACE);
-    let held = types::fields(tokens, rows, braced, left - 1);
-    let ended = steps::take(tokens, held, kinds::RIGHT_BRACE);
-    steps::close_row(rows, from, ended, row_kinds::STRUCT)
-}
-
-// An enum.
-fn enumeration(
-    source: &[u8],
-    prepared: &[u8],
-    tokens: &[u32],
-    rows: &mut [u32],
-    scope: Scope,
-    from: Step,
-    left: usize,
-) -> Step
-    requires tokens { Tokens tokens.now }
-    requires within { Within tokens.now 1 from }
-    requires left_nonzero { 0 < left }
-    requires from_value { kind_alternative aDeclaration (next_kind tokens.now from) ≡ 4 }
-    requires from_value_2 { next_kind tokens.now (opened from) ≡ bar }
-    ensures { ReadsIn source.now prepared.now tokens.now scope left 1 aDeclaration
-        from rows.old result rows.new }
-{
-    let opened = steps::open_row(from);
-    let marked = steps::take(tokens, opened, kinds::BAR);
-    let named = steps::take(tokens, marked, kinds::IDENT);
-    let braced = steps::take(tokens, named, kinds::LEFT_BRACE);
-    let held = variants(source, prepared, tokens, rows, scope, braced, left - 1);
-    let ended = steps::take(tokens, held, kinds::RIGHT_BRACE);
-    steps::close_row(rows, from, ended, row_kinds::ENUM)
-}
-
-// A constant.
-fn constant(tokens: &[u32], rows: &mut [u32], from: Step, left: usize) -> Step
-    requires tokens { Tokens tokens.now }
-    requires within { Within tokens.now 1 from }
-    requires left_nonzero { 0 < left }
-    requires from_value { kind_alternative aDeclaration (next_kind tokens.now from) ≡ 4 }
-    requires answers_kinds { AnswersKinds (query opens_struct) tokens.now (opened from) false }
-    requires bar_value { eqb (next_kind tokens.now (opened from)) bar ≡ false }
-    ensures { ReadsKinds tokens.now left 1 aDeclaration from rows.old result rows.new }
-{
-    let opened = steps::open_row(from);
-    let mutable = steps::take_if(tokens, opened, kinds::TILDE);
-    let typed = types::read_type(tokens, rows, mutable, left - 1);
-    let named = steps::take(tokens, typed, kinds::IDENT);
-    let valued = expressions::literal(tokens, rows, named, left - 1);
-    steps::close_row(rows, from, valued, row_kinds::CONSTANT)
-}
-
-// As many variants as there are; by rule 4 each begins with a name that is not a type name.
-fn variants(
-    source: &[u8],
-    prepared: &[u8],
-    tokens: &[u32],
-    rows: &mut [u32],
-    scope: Scope,
-    from: Step,
-    left: usize,
-) -> Step
-    requires tokens { Tokens tokens.now }
-    requires within { Within tokens.now 0 from }
-    ensures { ReadsIn source.now prepared.now tokens.now scope left 0 variantList
-        from rows.old result rows.new }
-{
-    let mut step = from;
-    while questions::plain_name(source, prepared, tokens, scope, step) {
-        step = variant(source, prepared, tokens, rows, scope, step, left);
+    // A trait, or the implementation of one for a type.
+    fn interface(&self, rows: &mut [u32], from: Place, left: usize) -> Result<Place, Refusal>
+        requires stands { Stands self.now 1 from }
+        requires left_nonzero { 0 < left }
+        requires form { kind_alternative aDeclaration (next_kind self.now.tokens.now (step_at from)) ≡ 5 }
+        ensures reads { ReadsBy self.now left 1 aDeclaration from rows.old result rows.new }
+        ensures arrives { Arrives self.now result }
+    {
+        let opened = self.open(from);
+        let named = self.take(opened, TokenKind::Ident)?;
+        let listed = self.optional_list(rows, named, left - 1, Words::Plain)?;
+        if self.next_is(listed, TokenKind::LeftBrace) {
+            let braced = self.take(listed, TokenKind::LeftBrace)?;
+            let held = self.methods(rows, braced, left - 1)?;
+            let ended = self.take(held, TokenKind::RightBrace)?;
+            return Ok(close_row(rows, from, ended, RowKind::Trait));
+        }
+        let typed = self.read_type(rows, listed, left - 1)?;
+        let braced = self.take(typed, TokenKind::LeftBrace)?;
+        let held = self.functions(rows, braced, left - 1)?;
+        let ended = self.take(held, TokenKind::RightBrace)?;
+        Ok(close_row(rows, from, ended, RowKind::Impl))
     }
-    step
-}
 
-// A variant: its name and its payload types.
-fn variant(
-    source: &[u8],
-    prepared: &[u8],
-    tokens: &[u32],
-    rows: &mut [u32],
-    scope: Scope,
-    from: Step,
-    left: usize,
-) -> Step
-    requires tokens { Tokens tokens.now }
-    requires within { Within tokens.now 0 from }
-    requires from_value { asked_at plain_name source.now tokens.now (names_in source.now prepared.now tokens.now scope) from ≡ true }
-    ensures { ReadsIn source.now prepared.now tokens.now scope left 1 aVariant
-        from rows.old result rows.new }
-{
-    if left == 0 {
-        return steps::refuse(from, steps::TOO_DEEP);
+    // A struct, an enum or a constant, by what follows its `:`.
+    fn definition(&self, rows: &mut [u32], from: Place, left: usize) -> Result<Place, Refusal>
+        requires stands { Stands self.now 1 from }
+        requires left_nonzero { 0 < left }
+        requires form { kind_alternative aDeclaration (next_kind self.now.tokens.now (step_at from)) ≡ 4 }
+        ensures reads { ReadsBy self.now left 1 aDeclaration from rows.old result rows.new }
+        ensures arrives { Arrives self.now result }
+    {
+        let opened = self.open(from);
+        if self.opens_struct(opened) {
+            return self.structure(rows, from, left);
+        }
+        if self.next_is(opened, TokenKind::Bar) {
+            return self.enumeration(rows, from, left);
+        }
+        self.constant(rows, from, left)
     }
-    let inner = steps::reserve_row(from);
-    let named = steps::take(tokens, inner, kinds::IDENT);
-    let held = payload_types(source, prepared, tokens, rows, scope, named, left - 1);
-    steps::close_row(rows, from, held, row_kinds::VARIANT)
-}
 
-// Rule 4: whether the next token begins a payload's type.
-fn begins_payload_type(
-    source: &[u8],
-    prepared: &[u8],
-    tokens: &[u32],
-    scope: Scope,
-    step: Step,
-) -> bool
-    ensures { result ≡ payload_begins source.now tokens.now
-        (names_in source.now prepared.now tokens.now scope) step }
-{
-    if questions::plain_name(source, prepared, tokens, scope, step) {
-        return false;
+    // A struct.
+    fn structure(&self, rows: &mut [u32], from: Place, left: usize) -> Result<Place, Refusal>
+        requires stands { Stands self.now 1 from }
+        requires left_nonzero { 0 < left }
+        requires form { kind_alternative aDeclaration (next_kind self.now.tokens.now (step_at from)) ≡ 4 }
+        requires opens { AnswersKinds (query opens_struct) self.now.tokens.now (opened (step_at from)) true }
+        ensures reads { ReadsKindsBy self.now left 1 aDeclaration from rows.old result rows.new }
+        ensures arrives { Arrives self.now result }
+    {
+        let opened = self.open(from);
+        let named = self.take(opened, TokenKind::Ident)?;
+        let listed = self.optional_list(rows, named, left - 1, Words::Plain)?;
+        let braced = self.take(listed, TokenKind::LeftBrace)?;
+        let held = self.fields(rows, braced, left - 1)?;
+        let ended = self.take(held, TokenKind::RightBrace)?;
+        Ok(close_row(rows, from, ended, RowKind::Struct))
     }
-    types::begins_type(tokens, step)
-}
 
-// As many payload types as there are.
-fn payload_types(
-    source: &[u8],
-    prepared: &[u8],
-    tokens: &[u32],
-    rows: &mut [u32],
-    scope: Scope,
-    from: Step,
-    left: usize,
-) -> Step
-    requires tokens { Tokens tokens.now }
-    requires within { Within tokens.now 0 from }
-    ensures { ReadsIn source.now prepared.now tokens.now scope left 0 payload_types
-        from rows.old result rows.new }
-{
-    let mut step = from;
-    while begins_payload_type(source, prepared, tokens, scope, step) {
-        step = types::read_type(tokens, rows, step, left);
+    // An enum.
+    fn enumeration(&self, rows: &mut [u32], from: Place, left: usize) -> Result<Place, Refusal>
+        requires stands { Stands self.now 1 from }
+        requires left_nonzero { 0 < left }
+        requires form { kind_alternative aDeclaration (next_kind self.now.tokens.now (step_at from)) ≡ 4 }
+        requires bar { next_kind self.now.tokens.now (opened (step_at from)) ≡ bar }
+        ensures reads { ReadsBy self.now left 1 aDeclaration from rows.old result rows.new }
+        ensures arrives { Arrives self.now result }
+    {
+        let opened = self.open(from);
+        let marked = self.take(opened, TokenKind::Bar)?;
+        let named = self.take(marked, TokenKind::Ident)?;
+        let braced = self.take(named, TokenKind::LeftBrace)?;
+        let held = self.variants(rows, braced, left - 1)?;
+        let ended = self.take(held, TokenKind::RightBrace)?;
+        Ok(close_row(rows, from, ended, RowKind::Enum))
     }
-    step
-}
 
-// A program: as many declarations as there are, below its row.
-fn program(
-    source: &[u8],
-    prepared: &[u8],
-    tokens: &[u32],
-    rows: &mut [u32],
-    scope: Scope,
-    left: usize,
-) -> Step
-    requires { Tokens tokens.now }
-    ensures { ReadsAll (derived aProgram ∷ []) source.now prepared.now tokens.now scope left
-        rows.old result rows.new }
-{
-    let from = Step::Read(0, 0);
-    if left == 0 {
-        return steps::refuse(from, steps::TOO_DEEP);
+    // A constant.
+    fn constant(&self, rows: &mut [u32], from: Place, left: usize) -> Result<Place, Refusal>
+        requires stands { Stands self.now 1 from }
+        requires left_nonzero { 0 < left }
+        requires form { kind_alternative aDeclaration (next_kind self.now.tokens.now (step_at from)) ≡ 4 }
+        requires opens { AnswersKinds (query opens_struct) self.now.tokens.now (opened (step_at from)) false }
+        requires bar { eqb (next_kind self.now.tokens.now (opened (step_at from))) bar ≡ false }
+        ensures reads { ReadsKindsBy self.now left 1 aDeclaration from rows.old result rows.new }
+        ensures arrives { Arrives self.now result }
+    {
+        let opened = self.open(from);
+        let mutable = self.take_if(opened, TokenKind::Tilde);
+        let typed = self.read_type(rows, mutable, left - 1)?;
+        let named = self.take(typed, TokenKind::Ident)?;
+        let valued = self.literal(rows, named, left - 1)?;
+        Ok(close_row(rows, from, valued, RowKind::Constant))
     }
-    let mut step = steps::reserve_row(from);
-    while begins_declaration(tokens, step) {
-        step = declaration(source, prepared, tokens, rows, scope, step, left - 1);
-    }
-    steps::close_row(rows, from, step, row_kinds::PROGRAM)
-}
 
-// The whole program: as many declarations as there are, up to the end of the tokens.
-fn whole_program(
-    source: &[u8],
-    prepared: &[u8],
-    tokens: &[u32],
-    rows: &mut [u32],
-    scope: Scope,
-    left: usize,
-) -> Step
-    requires { Tokens tokens.now }
-    ensures { ReadsWhole source.now prepared.now tokens.now scope left
-        rows.old result rows.new }
-{
-    let read = program(source, prepared, tokens, rows, scope, left);
-    // A refusal passes here: what follows it counts as the end.
-    if steps::next_is(tokens, read, steps::END) {
-        return read;
+    // As many variants as there are; by rule 4 each begins with a name that is not a type name.
+    fn variants(&self, rows: &mut [u32], from: Place, left: usize) -> Result<Place, Refusal>
+        requires { Stands self.now 0 from }
+        ensures reads { ReadsBy self.now left 0 variantList from rows.old result rows.new }
+        ensures arrives { Arrives self.now result }
+    {
+        let mut place = from;
+        while self.plain_name(place) {
+            place = self.variant(rows, place, left)?;
+        }
+        Ok(place)
     }
-    steps::refuse(read, steps::NO_PROGRAM)
+
+    // A variant: its name and its payload types.
+    fn variant(&self, rows: &mut [u32], from: Place, left: usize) -> Result<Place, Refusal>
+        requires stands { Stands self.now 0 from }
+        requires named { asked_at plain_name self.now.source.now self.now.tokens.now (names_of self.now) (step_at from) ≡ true }
+        ensures reads { ReadsBy self.now left 1 aVariant from rows.old result rows.new }
+        ensures arrives { Arrives self.now result }
+    {
+        if left == 0 {
+            return Err(from.too_deep());
+        }
+        let inner = self.reserve(from);
+        let named = self.take(inner, TokenKind::Ident)?;
+        let held = self.payload_types(rows, named, left - 1)?;
+        Ok(close_row(rows, from, held, RowKind::Variant))
+    }
+
+    // Rule 4: whether the next token begins a payload's type.
+    fn begins_payload_type(&self, from: Place) -> bool
+        ensures { result ≡ payload_begins self.now.source.now self.now.tokens.now (names_of self.now) (step_at from) }
+    {
+        !self.plain_name(from) && self.begins_type(from)
+    }
+
+    // As many payload types as there are.
+    fn payload_types(&self, rows: &mut [u32], from: Place, left: usize) -> Result<Place, Refusal>
+        requires { Stands self.now 0 from }
+        ensures reads { ReadsBy self.now left 0 payload_types from rows.old result rows.new }
+        ensures arrives { Arrives self.now result }
+    {
+        let mut place = from;
+        while self.begins_payload_type(place) {
+            place = self.read_type(rows, place, left)?;
+        }
+        Ok(place)
+    }
+
+    // A program: as many declarations as there are, below its row.
+    fn program(&self, rows: &mut [u32], left: usize) -> Result<Place, Refusal>
+        ensures { ReadsAll (derived aProgram ∷ []) self.now.source.now self.now.prepared.now self.now.tokens.now
+            self.now.scope left rows.old (step_of result) rows.new }
+    {
+        let from = Place { token: 0, row: 0 };
+        if left == 0 {
+            return Err(from.too_deep());
+        }
+        let mut place = self.reserve(from);
+        while self.begins_declaration(place) {
+            place = self.declaration(rows, place, left - 1)?;
+        }
+        Ok(close_row(rows, from, place, RowKind::Program))
+    }
+
+    // The whole program: as many declarations as there are, up to the end of the tokens.
+    fn whole_program(&self, rows: &mut [u32], left: usize) -> Result<Place, Refusal>
+        ensures { ReadsWhole self.now.source.now self.now.prepared.now self.now.tokens.now self.now.scope left
+            rows.old (step_of result) rows.new }
+    {
+        let end = self.program(rows, left)?;
+        if self.kind(end) == END {
+            return Ok(end);
+        }
+        Err(end.no_program())
+    }
 }
 
 // Reads a whole program into the whole rows of the tree table. A refusal leaves them all zero.
@@ -460,19 +340,23 @@ pub fn read_program(
     rows: &mut [u32],
     scope: Scope,
     left: usize,
-) -> Step
+) -> Result<Place, Refusal>
     requires { Tokens tokens.now }
     ensures reads { ReadsWhole source.now prepared.now tokens.now scope left
-        rows.old result rows.new }
-    ensures refused { (number place : ℕ) → result ≡ Refused number place → rows.new ≡ cleared rows.old }
+        rows.old (step_of result) rows.new }
+    ensures refused { (number place : ℕ) → step_of result ≡ Refused number place → rows.new ≡ cleared rows.old }
 {
+    let reading = Reading {
+        source,
+        prepared,
+        tokens,
+        scope,
+    };
     let end = tree::room(rows) * tree::WIDTH;
-    let read = whole_program(source, prepared, tokens, &mut rows[..end], scope, left);
-    match read {
-        Step::Refused(number, place) => {
-            tree::clear(rows);
-            Step::Refused(number, place)
-        }
-        Step::Read(next, row) => Step::Read(next, row),
+    let read = reading.whole_program(&mut rows[..end], left);
+    let refused = read.is_err();
+    if refused {
+        tree::clear(rows);
     }
+    read
 }

@@ -5,15 +5,17 @@
 mod declarations;
 mod expressions;
 mod questions;
+mod reading;
+mod statements;
 mod steps;
 mod types;
 mod words;
 
 pub use declarations::read_program;
 
-// How far a reading has come: the next token and the next row, or a refusal's number and place.
+// How far a reading has come: the next token, and the next row.
 #[derive(Clone, Copy)]
-pub enum Step {
-    Read(usize, usize),
-    Refused(u32, usize),
+pub struct Place {
+    pub token: usize,
+    pub row: usize,
 }

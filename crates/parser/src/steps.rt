@@ -1,126 +1,150 @@
-// The small steps that the readers are made of: each goes on from where a reading has come to, or passes a refusal on.
-ghost use Rattle.std.specs.Prelude.{◌≡◌, eqb};
-ghost use Rattle.parser.specs.internal.Steps.{Small, Spans, next_kind, refused_at, taken_kind, taken_if, opened, row_left, closed};
+// The small steps that the readers are made of.
+ghost use Rattle.std.specs.Prelude.{◌≡◌, ◌<◌, eqb, Err};
+ghost use Rattle.lexer.specs.internal.TokenRows.{kind_at};
+ghost use Rattle.lexer.specs.internal.KindNumbers.{kind_number};
+ghost use Rattle.lexer.specs.Refusals.{refusal_number};
+ghost use Rattle.tree.specs.internal.RowKindNumbers.{row_kind_number};
+ghost use Rattle.parser.specs.internal.Steps.{step_at, step_of, Closable, next_kind, refused_at, taken_kind, taken_if, opened, row_left};
+ghost use Rattle.parser.specs.internal.Steps.{closed};
+ghost use Rattle.parser.specs.internal.Readers.{Stands, Arrives};
 
-use crate::Step;
+use crate::Place;
+use crate::reading::Reading;
+use lexer::{Reason, Refusal, TokenKind};
+use tree::{RowKind, TreeRow};
 
-// The refusals of document 01 that a reading can meet: a token that cannot be taken, and a row that would be too deep.
-pub(crate) const NO_PROGRAM: u32 = lexer::refusals::NO_PROGRAM;
-
-pub(crate) const TOO_DEEP: u32 = lexer::refusals::TOO_DEEP;
-
-// The kind of the place after the last token.
-pub(crate) const END: u32 = 0;
-
-// The kind of the next token, 0 at the end and after a refusal.
-pub(crate) fn next_kind(tokens: &[u32], step: Step) -> u32
-    ensures { result ≡ next_kind tokens.now step }
-{
-    match step {
-        Step::Read(at, _) => lexer::kind_at(tokens, at),
-        Step::Refused(_, _) => END,
-    }
-}
-
-// Whether the next token is of this kind; after a refusal there is none but the end.
-pub(crate) fn next_is(tokens: &[u32], step: Step, kind: u32) -> bool
-    ensures { result ≡ eqb (next_kind tokens.now step) kind }
-{
-    next_kind(tokens, step) == kind
-}
-
-// A refusal with this number at the next token.
-pub(crate) fn refuse(step: Step, number: u32) -> Step
-    ensures { result ≡ refused_at number step }
-{
-    match step {
-        Step::Read(at, _) => Step::Refused(number, at),
-        Step::Refused(earlier, place) => Step::Refused(earlier, place),
-    }
-}
-
-// Takes a token of this kind.
-pub(crate) fn take(tokens: &[u32], step: Step, kind: u32) -> Step
-    requires { Small step }
-    ensures { result ≡ taken_kind tokens.now kind step }
-{
-    match step {
-        Step::Read(at, row) => {
-            if lexer::kind_at(tokens, at) == kind {
-                return Step::Read(at + 1, row);
-            }
-            Step::Refused(NO_PROGRAM, at)
+impl Place {
+    // A refusal of the next token.
+    pub(crate) fn no_program(self) -> Refusal
+        ensures { step_of (Err result) ≡ refused_at (refusal_number "no program") (step_at self) }
+    {
+        Refusal {
+            reason: Reason::NoProgram,
+            place: self.token,
         }
-        Step::Refused(number, place) => Step::Refused(number, place),
+    }
+
+    // A refusal at the next token, where no level is left.
+    pub(crate) fn too_deep(self) -> Refusal
+        ensures { step_of (Err result) ≡ refused_at (refusal_number "too deep") (step_at self) }
+    {
+        Refusal {
+            reason: Reason::TooDeep,
+            place: self.token,
+        }
     }
 }
 
-// Takes the next token and leaves the next row for what begins there.
-pub(crate) fn open_row(step: Step) -> Step
-    requires { Small step }
-    ensures { result ≡ opened step }
-{
-    match step {
-        Step::Read(at, row) => Step::Read(at + 1, row + 1),
-        Step::Refused(number, place) => Step::Refused(number, place),
+impl Reading<'_> {
+    // Whether the token at an index is of this kind.
+    pub(crate) fn stands(&self, index: usize, kind: TokenKind) -> bool
+        ensures { result ≡ eqb (kind_at self.now.tokens.now index) (kind_number kind) }
+    {
+        lexer::kind_at(self.tokens, index) == kind.number()
+    }
+
+    // The kind of the next token, 0 at the end.
+    pub(crate) fn kind(&self, from: Place) -> u32
+        ensures { result ≡ next_kind self.now.tokens.now (step_at from) }
+    {
+        lexer::kind_at(self.tokens, from.token)
+    }
+
+    // Whether the next token is of this kind.
+    pub(crate) fn next_is(&self, from: Place, kind: TokenKind) -> bool
+        ensures { result ≡ eqb (next_kind self.now.tokens.now (step_at from)) (kind_number kind) }
+    {
+        self.kind(from) == kind.number()
+    }
+
+    // Takes a token of this kind.
+    pub(crate) fn take(&self, from: Place, kind: TokenKind) -> Result<Place, Refusal>
+        requires { Stands self.now 1 from }
+        ensures answer { step_of result ≡ taken_kind self.now.tokens.now (kind_number kind) (step_at from) }
+        ensures arrives { Arrives self.now result }
+    {
+        if self.next_is(from, kind) {
+            return Ok(Place {
+                token: from.token + 1,
+                row: from.row,
+            });
+        }
+        Err(from.no_program())
+    }
+
+    // Takes the next token where it is of this kind.
+    pub(crate) fn take_if(&self, from: Place, kind: TokenKind) -> Place
+        requires { Stands self.now 0 from }
+        ensures answer { step_at result ≡ taken_if self.now.tokens.now (kind_number kind) (step_at from) }
+        ensures stands { Stands self.now 0 result }
+    {
+        if self.next_is(from, kind) {
+            return Place {
+                token: from.token + 1,
+                row: from.row,
+            };
+        }
+        from
+    }
+
+    // Takes the next token, and leaves the next row for what begins there.
+    pub(crate) fn open(&self, from: Place) -> Place
+        requires stands { Stands self.now 1 from }
+        requires some { 0 < next_kind self.now.tokens.now (step_at from) }
+        ensures answer { step_at result ≡ opened (step_at from) }
+        ensures stands { Stands self.now 0 result }
+    {
+        let row = from.row + 1;
+        Place {
+            token: from.token + 1,
+            row,
+        }
+    }
+
+    // Leaves the next row for what begins at the next token.
+    pub(crate) fn reserve(&self, from: Place) -> Place
+        requires { Stands self.now 0 from }
+        ensures answer { step_at result ≡ row_left (step_at from) }
+        ensures stands { Stands self.now 1 result }
+    {
+        Place {
+            token: from.token,
+            row: from.row + 1,
+        }
+    }
+
+    // A row of one token.
+    pub(crate) fn leaf(&self, rows: &mut [u32], from: Place, kind: RowKind) -> Place
+        requires stands { Stands self.now 1 from }
+        requires some { 0 < next_kind self.now.tokens.now (step_at from) }
+        ensures answer { step_at result ≡ opened (step_at from) }
+        ensures stands { Stands self.now 0 result }
+        ensures table { rows.new
+            ≡ closed (row_kind_number kind) (step_at from) (opened (step_at from)) rows.old }
+    {
+        let to = self.open(from);
+        close_row(rows, from, to, kind)
     }
 }
 
-// Leaves the next row for what begins at the next token.
-pub(crate) fn reserve_row(step: Step) -> Step
-    requires { Small step }
-    ensures { result ≡ row_left step }
-{
-    match step {
-        Step::Read(at, row) => Step::Read(at, row + 1),
-        Step::Refused(number, place) => Step::Refused(number, place),
-    }
-}
-
-// Writes the row of this kind over all that lies between two steps, and answers the second.
-pub(crate) fn close_row(rows: &mut [u32], from: Step, to: Step, kind: u32) -> Step
-    requires small { Small from }
-    requires small_2 { Small to }
-    requires spans { Spans from to }
+// Writes the row of this kind over all that lies between two places, and answers the second.
+pub(crate) fn close_row(rows: &mut [u32], from: Place, to: Place, kind: RowKind) -> Place
+    requires { Closable (step_at from) (step_at to) }
     ensures answer { result ≡ to }
-    ensures table { rows.new ≡ closed kind from to rows.old }
+    ensures table { rows.new ≡ closed (row_kind_number kind) (step_at from) (step_at to) rows.old }
 {
-    match from {
-        Step::Refused(_, _) => to,
-        Step::Read(at, row) => match to {
-            Step::Refused(_, _) => to,
-            Step::Read(next, last) => {
-                let cover = (next - at) as u32;
-                let count = (last - row) as u32;
-                tree::put_row(rows, row, kind, at as u32, cover, count);
-                to
-            }
+    let cover = (to.token - from.token) as u32;
+    let count = (to.row - from.row) as u32;
+    let first = from.token as u32;
+    tree::put_row(
+        rows,
+        from.row,
+        TreeRow {
+            kind: kind.number(),
+            first,
+            cover,
+            count,
         },
-    }
-}
-
-// Takes the next token where it is of this kind.
-pub(crate) fn take_if(tokens: &[u32], step: Step, kind: u32) -> Step
-    requires { Small step }
-    ensures { result ≡ taken_if tokens.now kind step }
-{
-    match step {
-        Step::Read(at, row) => {
-            if lexer::kind_at(tokens, at) == kind {
-                return Step::Read(at + 1, row);
-            }
-            step
-        }
-        Step::Refused(number, place) => Step::Refused(number, place),
-    }
-}
-
-// A row of one token.
-pub(crate) fn leaf(rows: &mut [u32], from: Step, kind: u32) -> Step
-    requires small { Small from }
-    requires small_2 { Small (opened from) }
-    ensures answer { result ≡ opened from }
-    ensures table { rows.new ≡ closed kind from (opened from) rows.old }
-{
-    close_row(rows, from, open_row(from), kind)
+    );
+    to
 }

@@ -1,121 +1,144 @@
 // Words: what bracketed lists and instances of generic types hold.
-ghost use Rattle.std.specs.Prelude.{◌≡◌, true};
+#![tactic(auto, using(crate::proofs::Laws::Results::wide))]
+
+ghost use Rattle.std.specs.Prelude.{◌≡◌, true, Ok};
 ghost use Rattle.lexer.specs.Tests.{pick, among};
 ghost use Rattle.grammar.specs.Grammars.{query};
 ghost use Rattle.grammar.specs.internal.Nonterminals.{more_names, more_words, name_list, word_list, type_parameters, type_arguments};
 ghost use Rattle.grammar.specs.internal.Productions.{opens_names, opens_words};
-ghost use Rattle.parser.specs.internal.Steps.{Tokens, Within, Small, AnswersKinds, word_kinds, WordsEnd, taken_word};
-ghost use Rattle.parser.specs.internal.Readings.{ReadsKinds, ReadsNoRows};
+ghost use Rattle.parser.specs.internal.Steps.{step_at, step_of, AnswersKinds, word_kinds, WordsEnd, taken_word};
+ghost use Rattle.parser.specs.internal.Readings.{ReadsNoRows};
+ghost use Rattle.parser.specs.internal.Readers.{Stands, Arrives, ReadsKindsBy};
+ghost use Rattle.parser.specs.internal.Words.{with_keywords};
 
-use crate::{Step, steps};
-use lexer::kinds;
-use tree::row_kinds;
+use crate::Place;
+use crate::reading::Reading;
+use crate::steps::close_row;
+use lexer::{Refusal, TokenKind};
+use tree::RowKind;
 
-// Whether a token of a kind is a word; a keyword is one where that is allowed.
-fn is_word(kind: u32, keywords: bool) -> bool
-    ensures { result ≡ among (word_kinds keywords) kind }
-{
-    match kind {
-        kinds::IDENT => true,
-        kinds::BOOLEAN => true,
-        kinds::KEYWORD => keywords,
-        _ => false,
-    }
+// The kinds that a `match` names, as numbers: a token table holds numbers, as C lends it.
+const IDENT: u32 = TokenKind::Ident as u32;
+
+const BOOLEAN: u32 = TokenKind::Boolean as u32;
+
+const KEYWORD: u32 = TokenKind::Keyword as u32;
+
+// Which tokens count as words: a keyword is one in some places.
+#[derive(Clone, Copy)]
+pub(crate) enum Words {
+    Plain,
+    WithKeywords,
 }
 
-// Where the words from `at` on end.
-fn words_end(tokens: &[u32], at: usize, keywords: bool) -> usize
-    ensures { WordsEnd keywords tokens.now at result }
-{
-    let mut end = at;
-    while is_word(lexer::kind_at(tokens, end), keywords) {
-        end += 1;
-    }
-    end
-}
-
-// Rule 2: whether a `[` comes next from which words run up to a `]`.
-fn opens_list(tokens: &[u32], step: Step, keywords: bool) -> bool
-    ensures { AnswersKinds (query (pick keywords opens_words opens_names)) tokens.now step result }
-{
-    match step {
-        Step::Read(at, _) => {
-            if lexer::kind_at(tokens, at) == kinds::LEFT_BRACKET {
-                let first = at + 1;
-                let end = words_end(tokens, first, keywords);
-                if end == first {
-                    return false;
-                }
-                return lexer::kind_at(tokens, end) == kinds::RIGHT_BRACKET;
-            }
-            false
+impl Words {
+    // Whether a token of a kind is a word.
+    fn has(self, kind: u32) -> bool
+        ensures { result ≡ among (word_kinds (with_keywords self)) kind }
+    {
+        match kind {
+            IDENT | BOOLEAN => true,
+            KEYWORD => matches!(self, Words::WithKeywords),
+            _ => false,
         }
-        Step::Refused(_, _) => false,
     }
 }
 
-// Takes a word.
-pub(crate) fn take_word(tokens: &[u32], step: Step, keywords: bool) -> Step
-    requires { Small step }
-    ensures { result ≡ taken_word tokens.now keywords step }
-{
-    match step {
-        Step::Read(at, row) => {
-            if is_word(lexer::kind_at(tokens, at), keywords) {
-                return Step::Read(at + 1, row);
-            }
-            Step::Refused(steps::NO_PROGRAM, at)
+impl Reading<'_> {
+    // Where the words from a token on end.
+    fn words_end(&self, from: usize, words: Words) -> usize
+        ensures { WordsEnd (with_keywords words) self.now.tokens.now from result }
+    {
+        let mut end = from;
+        while words.has(lexer::kind_at(self.tokens, end)) {
+            end += 1;
         }
-        Step::Refused(number, place) => Step::Refused(number, place),
+        end
     }
-}
 
-// As many words as there are.
-pub(crate) fn more_words(tokens: &[u32], from: Step, keywords: bool) -> Step
-    requires tokens { Tokens tokens.now }
-    requires within { Within tokens.now 0 from }
-    ensures { ReadsNoRows tokens.now 0 (pick keywords more_words more_names) from result }
-{
-    let mut step = from;
-    while is_word(steps::next_kind(tokens, step), keywords) {
-        step = take_word(tokens, step, keywords);
+    // Rule 2: whether a `[` comes next from which words run up to a `]`.
+    fn opens_list(&self, from: Place, words: Words) -> bool
+        ensures { AnswersKinds (query (pick (with_keywords words) opens_words opens_names))
+            self.now.tokens.now (step_at from) result }
+    {
+        if self.next_is(from, TokenKind::LeftBracket) {
+            let first = from.token + 1;
+            let end = self.words_end(first, words);
+            return end != first && self.stands(end, TokenKind::RightBracket);
+        }
+        false
     }
-    step
-}
 
-// A bracketed list of words.
-fn list(tokens: &[u32], rows: &mut [u32], from: Step, left: usize, keywords: bool) -> Step
-    requires tokens { Tokens tokens.now }
-    requires within { Within tokens.now 0 from }
-    requires answers_kinds { AnswersKinds (query (pick keywords opens_words opens_names)) tokens.now from true }
-    ensures { ReadsKinds tokens.now left 1 (pick keywords word_list name_list)
-        from rows.old result rows.new }
-{
-    if left == 0 {
-        return steps::refuse(from, steps::TOO_DEEP);
+    // Takes a word.
+    pub(crate) fn take_word(&self, from: Place, words: Words) -> Result<Place, Refusal>
+        requires { Stands self.now 0 from }
+        ensures answer { step_of result ≡ taken_word self.now.tokens.now (with_keywords words) (step_at from) }
+        ensures arrives { Arrives self.now result }
+    {
+        if words.has(self.kind(from)) {
+            return Ok(Place {
+                token: from.token + 1,
+                row: from.row,
+            });
+        }
+        Err(from.no_program())
     }
-    let opened = steps::open_row(from);
-    let first = take_word(tokens, opened, keywords);
-    let listed = more_words(tokens, first, keywords);
-    let ended = steps::take(tokens, listed, kinds::RIGHT_BRACKET);
-    steps::close_row(rows, from, ended, row_kinds::LIST)
-}
 
-// A bracketed list of words, where one is opened: type parameters, or with keywords the type arguments of a call.
-pub(crate) fn optional_list(
-    tokens: &[u32],
-    rows: &mut [u32],
-    from: Step,
-    left: usize,
-    keywords: bool,
-) -> Step
-    requires tokens { Tokens tokens.now }
-    requires within { Within tokens.now 0 from }
-    ensures { ReadsKinds tokens.now left 0 (pick keywords type_arguments type_parameters)
-        from rows.old result rows.new }
-{
-    if opens_list(tokens, from, keywords) {
-        return list(tokens, rows, from, left, keywords);
+    // As many words as there are.
+    pub(crate) fn more_words(&self, from: Place, words: Words) -> Place
+        requires { Stands self.now 0 from }
+        ensures reads { ReadsNoRows self.now.tokens.now 0 (pick (with_keywords words) more_words more_names)
+            (step_at from) (step_at result) }
+        ensures stands { Stands self.now 0 result }
+    {
+        let mut place = from;
+        while words.has(self.kind(place)) {
+            place.token += 1;
+        }
+        place
     }
-    from
+
+    // A bracketed list of words.
+    fn list(
+        &self,
+        rows: &mut [u32],
+        from: Place,
+        left: usize,
+        words: Words,
+    ) -> Result<Place, Refusal>
+        requires stands { Stands self.now 0 from }
+        requires opens { AnswersKinds (query (pick (with_keywords words) opens_words opens_names))
+            self.now.tokens.now (step_at from) true }
+        ensures reads { ReadsKindsBy self.now left 1 (pick (with_keywords words) word_list name_list)
+            from rows.old result rows.new }
+        ensures arrives { Arrives self.now result }
+    {
+        if left == 0 {
+            return Err(from.too_deep());
+        }
+        let opened = self.open(from);
+        let first = self.take_word(opened, words)?;
+        let listed = self.more_words(first, words);
+        let ended = self.take(listed, TokenKind::RightBracket)?;
+        Ok(close_row(rows, from, ended, RowKind::List))
+    }
+
+    // A bracketed list of words, where one is opened: type parameters, or with keywords the type arguments of a call.
+    pub(crate) fn optional_list(
+        &self,
+        rows: &mut [u32],
+        from: Place,
+        left: usize,
+        words: Words,
+    ) -> Result<Place, Refusal>
+        requires { Stands self.now 0 from }
+        ensures reads { ReadsKindsBy self.now left 0 (pick (with_keywords words) type_arguments type_parameters)
+            from rows.old result rows.new }
+        ensures arrives { Arrives self.now result }
+    {
+        if self.opens_list(from, words) {
+            return self.list(rows, from, left, words);
+        }
+        Ok(from)
+    }
 }

@@ -1,9 +1,10 @@
 // The text that the desk program prints for a script. Both tables are made here, so that their sizes are part of what is proved.
 ghost use Rattle.std.specs.Prelude.{◌≡◌, length};
 ghost use Rattle.nurl.specs.Texts.{overwritten};
-ghost use Rattle.replies.specs.Desk.{desk_tokens, desk_tree, desk_result, desk_text};
+ghost use Rattle.replies.specs.Desk.{desk_result, desk_text};
 
 use answer::Answer;
+use lexer::Reason;
 
 // The most bytes that a script may have; one more and it is refused 1.
 const SCRIPT_LIMIT: usize = 65535;
@@ -12,26 +13,19 @@ const SCRIPT_LIMIT: usize = 65535;
 pub const TEXT_ROOM: usize = 80064;
 
 // 5,000 token rows.
-fn token_table() -> [u32; 15000]
-    ensures { result ≡ desk_tokens }
-{
-    [0; 15000]
-}
+const TOKENS: usize = 5000 * lexer::WIDTH;
 
 // 4,000 tree rows.
-fn tree_table() -> [u32; 16000]
-    ensures { result ≡ desk_tree }
-{
-    [0; 16000]
-}
+const TREE: usize = 4000 * tree::WIDTH;
 
 // The answer for a script.
+#[tactic(auto, unfolding(crate::specs::Desk::desk_result))]
 fn answer(script: &[u8], tokens: &mut [u32], rows: &mut [u32]) -> Answer
     ensures answer { result ≡ (desk_result script.now tokens.old rows.old).answer }
     ensures tree { rows.new ≡ (desk_result script.now tokens.old rows.old).rows }
 {
     if SCRIPT_LIMIT < script.len() {
-        return Answer::Refused(lexer::refusals::LONG_SOURCE, 0);
+        return Answer::Refused(Reason::LongSource.number(), 0);
     }
     nurl::read(script, b"", tokens, rows)
 }
@@ -41,8 +35,8 @@ pub fn write_reply(script: &[u8], output: &mut [u8; TEXT_ROOM]) -> usize
     ensures size { result ≡ length (desk_text script.now) }
     ensures output { output.new ≡ overwritten (desk_text script.now) output.old }
 {
-    let mut tokens = token_table();
-    let mut rows = tree_table();
+    let mut tokens = [0; TOKENS];
+    let mut rows = [0; TREE];
     let found = answer(script, &mut tokens, &mut rows);
     let text = nurl::write_answer(found, &rows, output);
     nurl::bytes_written(text, TEXT_ROOM)

@@ -4,4 +4,5 @@
 pub mod row_kinds;
 mod table;
 
-pub use table::{WIDTH, clear, count_at, cover_at, first_at, kind_at, put_row, room};
+pub use row_kinds::RowKind;
+pub use table::{TreeRow, WIDTH, clear, count_at, cover_at, first_at, kind_at, put_row, room};

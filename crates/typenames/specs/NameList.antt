@@ -4,11 +4,12 @@ use Rattle.lexer.specs.Refusals.{refusal_number}
 use Rattle.lexer.specs.Tests.{and, pick}
 use Rattle.lexer.specs.Kinds.{token_kind}
 use Rattle.lexer.specs.Editions.{Edition}
-use Rattle.lexer.specs.Lexemes.{lexeme}
-use Rattle.lexer.specs.declared.Lexeme.{Lexeme}
-use Rattle.lexer.specs.declared.Lexeme.TheVariants.{End, Skipped, Token, BadByte, OpenString}
-use Rattle.typenames.specs.declared.Checked.{Checked}
-use Rattle.typenames.specs.declared.Checked.TheVariants.{Good, Refused}
+use Rattle.lexer.specs.Lexemes.{Lexeme, End, Skipped, Token, BadByte, OpenString, lexeme}
+
+-- whether a list of names is good, or the refusal's number and place
+pub data Checked : Type 0 where
+  Good : Checked
+  Refused : ℕ → ℕ → Checked
 
 -- "list over 16,384 bytes (place 0)"
 abbrev pub name_limit : ℕ

@@ -3,6 +3,7 @@
 
 mod compare;
 mod declarations;
+mod entries;
 mod filter;
 mod list;
 mod names;
@@ -12,13 +13,6 @@ pub use filter::SLOTS;
 pub use list::{NAME_LIMIT, check_names};
 pub use names::is_type_name;
 pub use prepared::{PREPARED_LIMIT, prepare};
-
-// Whether a list of names is good, or the refusal's number and place.
-#[derive(Clone, Copy)]
-pub enum Checked {
-    Good,
-    Refused(u32, usize),
-}
 
 // Which names are in force at a place: in grammar 1.7 those of the whole program, everywhere. A grammar in which a part of a program
 // has names of its own adds a scope here.

@@ -1,109 +1,103 @@
 // The cases: a header of five numbers `S R N T W`, then S bytes that R times over are the source, then N bytes of names, then one
 // byte 10. T and W are the lengths of the token table and of the tree table.
-ghost use Rattle.std.specs.Prelude.{◌≤◌, length};
+ghost use Rattle.std.specs.Prelude.{◌<◌, ◌≤◌, length, IfSome};
+ghost use Rattle.std.specs.Iterator.{at_most};
 ghost use Rattle.std.specs.Io.{ReadsAtMost};
 
 use std::io;
 use std::io::Read;
 
-// Where a case's parts stand, how often its piece stands in the source, and the lengths of its tables.
+// The longest source of a case, and the largest tables.
+pub(crate) const SOURCE_ROOM: usize = 1048577;
+
+pub(crate) const TOKENS_ROOM: usize = 750000;
+
+pub(crate) const TREE_ROOM: usize = 12000;
+
+// A digit after more than this makes a number too large.
+const MOST_BEFORE_DIGIT: usize = 2000000;
+
+// A case: the piece that so many times over is its source, its names, and the lengths of its tables, for which there is room.
 #[derive(Clone, Copy)]
-pub struct Case {
-    pub piece: usize,
-    pub names: usize,
-    pub end: usize,
-    pub times: usize,
-    pub tokens: usize,
-    pub tree: usize,
+pub(crate) struct Case<'a> {
+    piece: &'a [u8],
+    times: usize,
+    pub(crate) names: &'a [u8],
+    pub(crate) tokens: usize,
+    pub(crate) tree: usize,
+    ghost tokens_fit: { tokens ≤ 750000 },
+    ghost tree_fits: { tree ≤ 12000 },
 }
 
-#[derive(Clone, Copy)]
-struct Number {
-    value: usize,
-    next: usize,
-}
-
-// The decimal number at `at`, and the place after the byte that ends it. A number that is too large ends the text.
-fn number_at(text: &[u8], at: usize) -> Number
-    requires { at ≤ length text.now }
-    ensures value_bound { result.value ≤ 20000255 }
-    ensures at_le_next { at ≤ result.next }
-    ensures next_in_bounds { result.next ≤ length text.now }
-{
-    let mut value: usize = 0;
-    let mut i = at;
-    while i < text.len() {
-        let b = text[i];
-        if b < b'0' {
-            return Number { value, next: i + 1 };
+impl<'a> Case<'a> {
+    // Writes the source into lent room, as much of it as there is room for.
+    pub(crate) fn source<'r>(self, room: &'r mut [u8]) -> &'r [u8] {
+        let size = self.piece.len().saturating_mul(self.times).min(room.len());
+        for (to, from) in room.iter_mut().zip(self.piece.iter().cycle().take(size)) {
+            *to = *from;
         }
-        if 2000000 < value {
-            return Number {
-                value: 0,
-                next: text.len(),
-            };
+        &room[..size]
+    }
+}
+
+// The cases of a text, in turn. What is not a case ends them.
+#[derive(Drop)]
+pub(crate) struct Cases<'a>(&'a [u8]);
+
+impl<'a> Cases<'a> {
+    pub(crate) fn new(text: &'a [u8]) -> Cases<'a> {
+        Cases(text)
+    }
+}
+
+impl<'a> Iterator for Cases<'a> {
+    type Item = Case<'a>;
+
+    ghost remaining = { λ s. at_most (length s.0.now) };
+
+    fn next(&mut self) -> Option<Case<'a>> {
+        let (size, text) = number(self.0)?;
+        let (times, text) = number(text)?;
+        let (name_size, text) = number(text)?;
+        let (tokens, text) = number(text)?;
+        let (tree, text) = number(text)?;
+        let (piece, text) = text.split_at_checked(size)?;
+        let (names, text) = text.split_at_checked(name_size)?;
+        let (_, text) = text.split_first()?;
+        if TOKENS_ROOM < tokens || TREE_ROOM < tree {
+            return None;
         }
-        value = value * 10 + (b - b'0') as usize;
-        i += 1;
-    }
-    Number { value, next: i }
-}
-
-// The case whose header stands at `at`. Where there is none, its end is past the text.
-pub(crate) fn case_at(text: &[u8], at: usize) -> Case
-    requires { at ≤ length text.now }
-    ensures at_le_piece { at ≤ result.piece }
-    ensures piece_le_names { result.piece ≤ result.names }
-    ensures names_le_end { result.names ≤ result.end }
-{
-    let size = number_at(text, at);
-    let times = number_at(text, size.next);
-    let names = number_at(text, times.next);
-    let tokens = number_at(text, names.next);
-    let tree = number_at(text, tokens.next);
-    let piece = tree.next;
-    Case {
-        piece,
-        names: piece + size.value,
-        end: piece + size.value + names.value,
-        times: times.value,
-        tokens: tokens.value,
-        tree: tree.value,
+        self.0 = text;
+        Some(Case {
+            piece,
+            times,
+            names,
+            tokens,
+            tree,
+        })
     }
 }
 
-// Writes a piece once from `at` on, as much of it as fits, and answers where it ends.
-fn copy_into(source: &mut [u8], at: usize, piece: &[u8]) -> usize
-    requires { at ≤ length source.old }
-    ensures { result ≤ length source.old }
+// The decimal number at the front of a text, and what stands after the byte that ends it. There is none where no byte does, and none
+// where it is too large.
+fn number(text: &[u8]) -> Option<(usize, &[u8])>
+    ensures { IfSome result (λ found. length found.1.now < length text.now) }
 {
-    let mut i = 0;
-    let mut to = at;
-    while i < piece.len() {
-        if source.len() <= to {
-            return to;
+    let mut value = 0;
+    for (i, b) in text.iter().enumerate() {
+        if *b < b'0' {
+            return Some((value, &text[i + 1..]));
         }
-        source[to] = piece[i];
-        i += 1;
-        to += 1;
+        if MOST_BEFORE_DIGIT < value {
+            return None;
+        }
+        value = value * 10 + usize::from(*b - b'0');
     }
-    to
+    None
 }
 
-// Writes a piece so many times, as much of it as fits, and answers where it ends.
-pub(crate) fn repeat_into(source: &mut [u8], piece: &[u8], times: usize) -> usize
-    ensures { result ≤ length source.old }
-{
-    let mut at = 0;
-    let mut left = times;
-    while 0 < left {
-        at = copy_into(source, at, piece);
-        left -= 1;
-    }
-    at
-}
-
-// Reads until the buffer is full or the input ends, and answers how many bytes that is. A call that fails is an error.
+// Reads until the buffer is full or the input ends, and answers how many bytes that is. A call that fails is an error. Each call brings as
+// many bytes as it likes, so no `for` counts the calls.
 pub(crate) fn read_full<R: Read>(input: &mut R, buffer: &mut [u8]) -> io::Result<usize>
     ensures { ReadsAtMost result buffer.new }
 {

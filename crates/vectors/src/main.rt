@@ -2,13 +2,12 @@
 #![tactic(auto)]
 
 mod input;
-mod output;
 mod table;
 
-ghost use Rattle.std.specs.Prelude.{◌≡◌, ◌<◌, length, IfOk};
-
+use input::{Case, Cases, SOURCE_ROOM, TOKENS_ROOM, TREE_ROOM};
 use nurl::Answer;
 use std::io;
+use std::io::{Cursor, Write};
 use table::Layout;
 
 // The two tables: the numbers in a row, and the first number before a case.
@@ -22,151 +21,58 @@ const TREE: Layout = Layout {
     base: 700000,
 };
 
-// Where the next case stands, and the place reached in the output.
-#[derive(Clone, Copy)]
-struct Step {
-    next: usize,
-    to: usize,
-}
+// The most bytes of standard input that are read.
+const TEXT_ROOM: usize = 1400000;
 
-// Prints an answer and the tables as they are after it.
-fn print(
-    rt: &impl Print,
-    out: &mut [u8],
-    to: usize,
-    answer: Answer,
-    tokens: &[u32],
-    tree: &[u32],
-) -> io::Result<usize> {
-    let mut at = output::put_answer(rt, out, to, answer)?;
-    at = table::put_table(rt, out, at, tokens, TOKENS)?;
-    at = output::put_text(rt, out, at, b"tree\n")?;
-    table::put_table(rt, out, at, tree, TREE)
-}
+// Room for what a case prints: two tables, each of at most 12,000 numbers of up to ten digits and a byte after them, and four lines.
+const PAGE_ROOM: usize = 265000;
 
-// Runs one case and prints what came of it.
-fn run(
-    rt: &impl Print,
-    source: &[u8],
-    names: &[u8],
-    tokens: &mut [u32],
-    tree: &mut [u32],
-    out: &mut [u8],
-    to: usize,
-) -> io::Result<usize> {
-    table::fill(tokens, TOKENS);
-    table::fill(tree, TREE);
-    let answer = nurl::read(source, names, tokens, tree);
-    print(rt, out, to, answer, tokens, tree)
-}
-
-// Runs the case at `at`. What is not a case ends the text.
-fn run_case(
-    rt: &impl Print,
-    text: &[u8],
-    at: usize,
-    source: &mut [u8],
-    tokens: &mut [u32],
-    tree: &mut [u32],
-    out: &mut [u8],
-    to: usize,
-) -> io::Result<Step>
-    requires { at < length text.now }
-    ensures { IfOk result (λ step. at < step.next) }
-{
-    let case = input::case_at(text, at);
-    let piece = case.piece;
-    let names = case.names;
-    let end = case.end;
-    let t = case.tokens;
-    let w = case.tree;
-    if end < text.len() {
-        if t <= tokens.len() {
-            if w <= tree.len() {
-                let len = input::repeat_into(source, &text[piece..names], case.times);
-                let to = run(
-                    rt,
-                    &source[..len],
-                    &text[names..end],
-                    &mut tokens[..t],
-                    &mut tree[..w],
-                    out,
-                    to,
-                )?;
-                return Ok(Step { next: end + 1, to });
-            }
-        }
+// Prints an answer.
+fn print_answer<W: Write>(out: &mut W, answer: Answer) -> io::Result<()> {
+    match answer {
+        Answer::Accepted(tokens, rows) => writeln!(out, "accepted {tokens} {rows}"),
+        Answer::Refused(number, place) => writeln!(out, "refused {number} {place}"),
     }
-    Ok(Step {
-        next: text.len(),
-        to,
-    })
 }
 
-// Runs all cases of a text.
-fn run_all(
-    rt: &impl Print,
-    text: &[u8],
-    source: &mut [u8],
-    tokens: &mut [u32],
-    tree: &mut [u32],
-    out: &mut [u8],
+// Runs a case, and prints the answer and the tables as they are after it.
+fn run<W: Write>(
+    case: Case<'_>,
+    source: &mut [u8; SOURCE_ROOM],
+    tokens: &mut [u32; TOKENS_ROOM],
+    tree: &mut [u32; TREE_ROOM],
+    out: &mut W,
 ) -> io::Result<()> {
-    let mut at = 0;
-    let mut to = 0;
-    while at < text.len() {
-        let step = run_case(rt, text, at, source, tokens, tree, out, to)?;
-        at = step.next;
-        to = step.to;
-    }
-    output::flush(rt, out, to)
+    let source = case.source(source);
+    let tokens = &mut tokens[..case.tokens];
+    let tree = &mut tree[..case.tree];
+    TOKENS.fill(tokens);
+    TREE.fill(tree);
+    let answer = nurl::read(source, case.names, tokens, tree);
+    print_answer(out, answer)?;
+    TOKENS.print(out, tokens)?;
+    writeln!(out, "tree")?;
+    TREE.print(out, tree)
 }
 
-// Room for all cases, for the longest source of a case, and for the largest tables.
-fn text_buffer() -> [u8; 1400000]
-    ensures { 1400000 ≡ length result }
-{
-    [0; 1400000]
-}
-
-fn source_buffer() -> [u8; 1048577]
-    ensures { 1048577 ≡ length result }
-{
-    [0; 1048577]
-}
-
-fn tokens_buffer() -> [u32; 750000]
-    ensures { 750000 ≡ length result }
-{
-    [0; 750000]
-}
-
-fn tree_buffer() -> [u32; 12000]
-    ensures { 12000 ≡ length result }
-{
-    [0; 12000]
-}
-
-// Room for the output between two writes.
-fn output_buffer() -> [u8; 65536]
-    ensures { 65536 ≡ length result }
-{
-    [0; 65536]
+// What has been written to lent room.
+fn written<'a>(room: &'a Cursor<&mut [u8]>) -> &'a [u8] {
+    let all = room.get_ref();
+    &all[..(room.position() as usize).min(all.len())]
 }
 
 fn main(rt: HostRuntime) -> io::Result<()> {
-    let mut text = text_buffer();
-    let mut source = source_buffer();
-    let mut tokens = tokens_buffer();
-    let mut tree = tree_buffer();
-    let mut out = output_buffer();
-    let n = input::read_full(&mut rt.stdin(), &mut text)?;
-    run_all(
-        &rt,
-        &text[..n],
-        &mut source,
-        &mut tokens,
-        &mut tree,
-        &mut out,
-    )
+    let mut text = [0; TEXT_ROOM];
+    let mut source = [0; SOURCE_ROOM];
+    let mut tokens = [0; TOKENS_ROOM];
+    let mut tree = [0; TREE_ROOM];
+    let mut page = [0; PAGE_ROOM];
+    let text = text.as_mut_slice();
+    let size = input::read_full(&mut rt.stdin(), text)?;
+    for case in Cases::new(&text[..size]) {
+        let mut page = Cursor::new(page.as_mut_slice());
+        run(case, &mut source, &mut tokens, &mut tree, &mut page)?;
+        rt.write_all(written(&page))?;
+    }
+    Ok(())
 }

@@ -14,9 +14,7 @@ use Rattle.lexer.specs.Tokens.{Token, Ending, clean, fault}
 use Rattle.lexer.specs.executable.Scans.{scan}
 use Rattle.lexer.specs.Table.{source_limit, token_room, filled}
 use Rattle.lexer.proofs.Laws.Places.{fault-placed}
-use Rattle.typenames.specs.NameList.{checked}
-use Rattle.typenames.specs.declared.Checked.{Checked}
-use Rattle.typenames.specs.declared.Checked.TheVariants.{Good}
+use Rattle.typenames.specs.NameList.{Checked, Good, checked}
 use Rattle.typenames.proofs.Laws.Entries.{checked_two}
 use Rattle.tree.specs.TreeTable.{Row, tree_room, placed, cleared}
 use Rattle.grammar.specs.executable.Reading.{Outcome, ok, stuck, deep, spent}

@@ -6,9 +6,7 @@ use Rattle.lexer.specs.Tests.{pick}
 use Rattle.lexer.specs.Tokens.{Token, Ending, clean, fault}
 use Rattle.lexer.specs.executable.Scans.{scan}
 use Rattle.lexer.specs.Table.{source_limit, token_room, filled}
-use Rattle.typenames.specs.NameList.{checked}
-use Rattle.typenames.specs.declared.Checked.{Checked}
-use Rattle.typenames.specs.declared.Checked.TheVariants.{Good}
+use Rattle.typenames.specs.NameList.{Checked, Good, checked}
 use Rattle.tree.specs.TreeTable.{Row, tree_room, placed, cleared}
 use Rattle.grammar.specs.executable.Reading.{Outcome, ok, stuck, deep, spent}
 use Rattle.grammar.specs.Languages.{Language, language17}

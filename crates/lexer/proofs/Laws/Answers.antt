@@ -12,9 +12,7 @@ use Rattle.lexer.specs.Editions.{Edition}
 use Rattle.lexer.specs.Tokens.{Ending, clean, fault}
 use Rattle.lexer.specs.executable.Scans.{scan}
 use Rattle.lexer.specs.Table.{source_limit, token_room, filled}
-use Rattle.lexer.specs.internal.Tokenized.{ended_with, scanned, counted, with_room, tokenized, after_answer, table_after}
-use Rattle.lexer.specs.declared.Scanned.{Scanned}
-use Rattle.lexer.specs.declared.Scanned.TheVariants.{Tokens, Refused}
+use Rattle.lexer.specs.internal.Tokenized.{Scanned, Tokens, Refused, ended_with, scanned, counted, with_room, tokenized, after_answer, table_after}
 
 -- an answer of any kind that is the one expected has its numbers
 pub valued : {A : Type 0} (values : A → List ℕ) (r expected : A) → r ≡ expected → (r ≡ expected) × (values r ≡ values expected)

@@ -2,14 +2,18 @@
 -- Assumes nothing.
 use Prim.Native.Char.{code}
 use Prim.Native.Nat.{ℕ, ◌<◌}
-use mathlib.Core.Path.{◌≡◌, refl}
+use mathlib.Core.Path.{◌≡◌, refl, ◌∙◌}
 use mathlib.Core.Bool.{Bool, true, false}
 use mathlib.Core.List.{[], ◌∷◌}
 use lib.Dec.{T, eqb}
+use denote.Enum.Bare.{sameb}
 use borrow.Author.Tests.{ne_eqb}
 use Rattle.lexer.specs.Tests.{and, or, between}
 use Rattle.lexer.specs.Bytes.{is_digit, is_letter, is_space}
-use Rattle.lexer.specs.internal.Leaves.{byte_class}
+use Rattle.lexer.specs.internal.Leaves.{byte_class, class_number}
+use Rattle.lexer.specs.contracts.bytes.ByteClass.{the_type}
+use Rattle.lexer.specs.declared.bytes.ByteClass.{ByteClass}
+use Rattle.lexer.specs.declared.bytes.ByteClass.TheVariants.{Digit, Letter, Space, Minus, Slash, Backtick, Other}
 use Rattle.lexer.proofs.Laws.Computed.{all, all-at, None}
 
 -- whether two tests agree
@@ -25,10 +29,14 @@ agreed true false t = absurd t
 agreed false true t = absurd t
 agreed false false t = refl
 
+-- two tests that agree at every byte
+pub same_test : (f g : ℕ → Bool) → T (all (λ b. agree (f b) (g b)) 256) → (b : ℕ) → b < 256 → f b ≡ g b
+same_test f g t b h = agreed _ _ (all-at (λ b. agree (f b) (g b)) 256 t b h)
+
 -- one class against one test
 class_test : (k : ℕ) (f : ℕ → Bool) → T (all (λ b. agree (eqb (byte_class b) k) (f b)) 256)
     → (b : ℕ) → b < 256 → eqb (byte_class b) k ≡ f b
-class_test k f t b h = agreed _ _ (all-at (λ b. agree (eqb (byte_class b) k) (f b)) 256 t b h)
+class_test k f = same_test (λ b. eqb (byte_class b) k) f
 
 pub class_digit : (b : ℕ) → b < 256 → eqb (byte_class b) 0 ≡ is_digit b
 unfolding agree byte_class and or between is_digit is_letter is_space
@@ -58,3 +66,16 @@ class_backtick = class_test 5 (λ b. eqb b (code "`")) tt
 pub no_space : (b : ℕ) → None (13 ∷ 9 ∷ 10 ∷ 32 ∷ []) b → is_space b ≡ false
 unfolding is_space or
 no_space b h = rw (ne_eqb _ _ h.0.0.0.1, ne_eqb _ _ h.0.0.1, ne_eqb _ _ h.0.1, ne_eqb _ _ h.1)
+
+-- whether the class found is that of letters
+pub letter_told : (class : ByteClass) (b : ℕ) → b < 256 → class_number class ≡ byte_class b → sameb the_type class Letter ≡ is_letter b
+letter_told class b h told = by class ∙ rw told (class_letter b h)
+  where
+    by : (class : ByteClass) → sameb the_type class Letter ≡ eqb (class_number class) 1
+    by Digit = refl
+    by Letter = refl
+    by Space = refl
+    by Minus = refl
+    by Slash = refl
+    by Backtick = refl
+    by Other = refl

@@ -17,11 +17,10 @@ use Rattle.lexer.specs.Spellings.{Spelling, kind_of, longest}
 use Rattle.lexer.specs.Editions.{Edition}
 use Rattle.lexer.specs.Words.{word_length, word_kind, ident_length, two_colons, joins}
 use Rattle.lexer.specs.Numbers.{digits, with_digits, fraction, sign, exponent}
-use Rattle.lexer.specs.Lexemes.{skipped_spaces, spaces, comment, word_of, word, number_of, unsigned_number, with_minus, number, text}
-use Rattle.lexer.specs.Lexemes.{mark_of, mark_up_to, mark, lexeme}
+use Rattle.lexer.specs.Lexemes.{Lexeme, Skipped, Token, BadByte, OpenString}
+use Rattle.lexer.specs.Lexemes.{skipped_spaces, spaces, comment, word_of, word}
+use Rattle.lexer.specs.Lexemes.{number_of, unsigned_number, with_minus, number, text, mark_of, mark_up_to, mark, lexeme}
 use Rattle.lexer.specs.executable.Scans.{lexeme_size}
-use Rattle.lexer.specs.declared.Lexeme.{Lexeme}
-use Rattle.lexer.specs.declared.Lexeme.TheVariants.{Skipped, Token, BadByte, OpenString}
 use Rattle.lexer.proofs.Laws.Tests.{and-false}
 use Rattle.lexer.proofs.Laws.Runs.{run_nil, run_pass, run_stop}
 use Rattle.lexer.proofs.Laws.Words.{word_nil, word_letter, word_none, word_le, ident_other}

@@ -13,9 +13,7 @@ use borrow.Author.Tests.{le-leb, lt-leb, le-ltb, lt-ltb, eqb-true, eqb-false, eq
 use Rattle.lexer.specs.Tests.{and, or, pick, between, among}
 use Rattle.lexer.specs.Bytes.{is_digit, is_letter, is_space, is_word_byte, run}
 use Rattle.lexer.specs.Editions.{Edition, edition17}
-use Rattle.lexer.specs.Lexemes.{spaces, comment, word, unsigned_number, number, text, mark, or_else, lexeme}
-use Rattle.lexer.specs.declared.Lexeme.{Lexeme}
-use Rattle.lexer.specs.declared.Lexeme.TheVariants.{Token, BadByte}
+use Rattle.lexer.specs.Lexemes.{Lexeme, Token, BadByte, spaces, comment, word, unsigned_number, number, text, mark, or_else, lexeme}
 use Rattle.lexer.specs.internal.Kinds.{slash}
 use Rattle.lexer.specs.Spellings.{Spelling, same, kind_of, reserved, spelled_marks}
 use Rattle.lexer.specs.Words.{word_length, or_ident, word_kind}
@@ -25,8 +23,8 @@ use Rattle.lexer.specs.internal.Entries.{other_entry, slash_entry, backtick_entr
 use Rattle.lexer.specs.internal.Entries.{letter_entry, last_entry, mark_entry, byte_entry, has_entry, Bounded}
 use Rattle.lexer.proofs.Laws.Tests.{and-false, and_left, and_right, or_left, or_right, not-true, between_range}
 use Rattle.lexer.proofs.Laws.Editions.{kind17, FitEdition}
-use Rattle.lexer.proofs.Laws.Computed.{all, all-at}
-use Rattle.lexer.proofs.Laws.Classes.{agree, agreed, class_minus, class_slash, class_backtick}
+use Rattle.lexer.proofs.Laws.Computed.{all}
+use Rattle.lexer.proofs.Laws.Classes.{agree, same_test, class_minus, class_slash, class_backtick}
 use Rattle.lexer.proofs.Laws.Fronts.{front_one}
 use Rattle.lexer.proofs.Laws.Marks.{mark_found, one_enough}
 use Rattle.lexer.proofs.Laws.Lexemes.{lexeme_letter, lexeme_space, lexeme_digit, lexeme-minus, lexeme-slash, lexeme_backtick}
@@ -68,12 +66,12 @@ opened b = byte_entry b
 
 -- a test that passes at every byte
 passes : (f : ℕ → Bool) → T (all (λ b. agree (f b) true) 256) → (b : ℕ) → b < 256 → f b ≡ true
-passes f t b h = agreed (f b) true (all-at (λ b. agree (f b) true) 256 t b h)
+passes f = same_test f (λ b. true)
 
 -- some entries against one test
 entry_test : (low high : ℕ) (f : ℕ → Bool) → T (all (λ b. agree (has_entry low high b) (f b)) 256)
     → (b : ℕ) → b < 256 → has_entry low high b ≡ f b
-entry_test low high f t b h = agreed _ _ (all-at (λ b. agree (has_entry low high b) (f b)) 256 t b h)
+entry_test low high = same_test (has_entry low high)
 
 entry_space : (b : ℕ) → b < 256 → has_entry space_entry space_entry b ≡ is_space b
 unfolding opened

@@ -1,6 +1,6 @@
 -- The first bytes of a list from a place on. Assumes nothing.
 use Prim.Native.Nat.{ℕ, ◌+◌, ◌≤◌, ◌<◌}
-use mathlib.Core.Path.{◌≡◌}
+use mathlib.Core.Path.{◌≡◌, sym, ◌∙◌}
 use mathlib.Core.Bool.{true}
 use mathlib.Core.List.{List, [], ◌∷◌}
 use lib.Dec.{eqb}
@@ -11,6 +11,7 @@ use native.Mathlib.Nat.{add_assoc}
 use native.Mathlib.Omega.{arith}
 use Rattle.lexer.specs.Bytes.{begins_either, begins}
 use Rattle.lexer.proofs.Laws.Tests.{or_else_lem}
+use Rattle.std.proofs.lemmas.Grind.{get_or_default_zero}
 
 module _ (s : List ℕ) (at : ℕ) where
   pub front_none : length s ≤ at → drop at s ≡ []
@@ -32,3 +33,7 @@ module _ (s : List ℕ) (at : ℕ) where
 pub begins_one : (a b : ℕ) (t : List ℕ) → begins a (b ∷ t) ≡ true → eqb b a ≡ true
 unfolding begins_either
 begins_one a b t = or_else_lem (eqb b a) (eqb b a) (λ h. h) (λ h. h)
+
+-- the byte that `get` has found at a place
+pub byte_there : (s : List ℕ) (at b : ℕ) → at < length s → b ≡ get_or s at b → get_or s at 0 ≡ b
+byte_there s at b inside is = sym (is ∙ get_or_default_zero s at b inside)

@@ -16,10 +16,9 @@ use Rattle.lexer.specs.Bytes.{is_space, is_in_line, is_in_string, begins_either,
 use Rattle.lexer.specs.Spellings.{Spelling, kind_of, longest}
 use Rattle.lexer.specs.Editions.{Edition}
 use Rattle.lexer.specs.Words.{word_length}
-use Rattle.lexer.specs.Lexemes.{skipped_spaces, spaces, comment, word_of, word, number_of, unsigned_number, with_minus, number, text}
-use Rattle.lexer.specs.Lexemes.{mark_of, mark_up_to, mark, or_else, lexeme}
-use Rattle.lexer.specs.declared.Lexeme.{Lexeme}
-use Rattle.lexer.specs.declared.Lexeme.TheVariants.{End, Skipped, Token, BadByte, OpenString}
+use Rattle.lexer.specs.Lexemes.{Lexeme, End, Skipped, Token, BadByte, OpenString}
+use Rattle.lexer.specs.Lexemes.{skipped_spaces, spaces, comment, word_of, word}
+use Rattle.lexer.specs.Lexemes.{number_of, unsigned_number, with_minus, number, text, mark_of, mark_up_to, mark, or_else, lexeme}
 use Rattle.lexer.proofs.Laws.Tests.{and_left, and_right}
 use Rattle.lexer.proofs.Laws.Fronts.{begins_one}
 use Rattle.lexer.proofs.Laws.Runs.{run_nil, run_pass, run_stop}

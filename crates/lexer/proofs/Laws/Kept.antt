@@ -1,10 +1,8 @@
 -- When a choice of rules gives the same for two lists of bytes: where each rule does, so far as it is asked. Assumes nothing.
 use Prim.Native.Nat.{ℕ, ◌≤◌, zero-le}
 use mathlib.Core.Path.{◌≡◌}
-use Rattle.lexer.specs.Lexemes.{or_else}
+use Rattle.lexer.specs.Lexemes.{Lexeme, End, Skipped, Token, BadByte, OpenString, or_else}
 use Rattle.lexer.specs.executable.Scans.{lexeme_size}
-use Rattle.lexer.specs.declared.Lexeme.{Lexeme}
-use Rattle.lexer.specs.declared.Lexeme.TheVariants.{End, Skipped, Token, BadByte, OpenString}
 
 -- a token, or that a rule does not fit
 abbrev pub Plain : Lexeme → Type 0

@@ -16,11 +16,10 @@ use Rattle.lexer.specs.Bytes.{is_space, is_digit, is_letter, is_in_line, is_in_s
 use Rattle.lexer.specs.Spellings.{same, kind_of, spelled_marks}
 use Rattle.lexer.specs.Editions.{Edition}
 use Rattle.lexer.specs.Numbers.{digits, fraction}
-use Rattle.lexer.specs.Lexemes.{skipped_spaces, spaces, comment, word_of, word, number_of, unsigned_number, with_minus, number, text}
-use Rattle.lexer.specs.Lexemes.{mark_of, mark, or_else, lexeme}
+use Rattle.lexer.specs.Lexemes.{Lexeme, Skipped, Token, BadByte, OpenString}
+use Rattle.lexer.specs.Lexemes.{skipped_spaces, spaces, comment, word_of, word}
+use Rattle.lexer.specs.Lexemes.{number_of, unsigned_number, with_minus, number, text, mark_of, mark, or_else, lexeme}
 use Rattle.lexer.specs.internal.Leaves.{byte_class}
-use Rattle.lexer.specs.declared.Lexeme.{Lexeme}
-use Rattle.lexer.specs.declared.Lexeme.TheVariants.{Skipped, Token, BadByte, OpenString}
 use Rattle.lexer.proofs.Laws.Tests.{and-false}
 use Rattle.lexer.proofs.Laws.Classes.{class_digit, class_letter, class_space, class_minus, class_slash, class_backtick}
 use Rattle.lexer.proofs.Laws.Fronts.{front_one}

@@ -16,11 +16,10 @@ use Rattle.lexer.specs.Bytes.{is_space, is_digit, is_letter, begins_either, begi
 use Rattle.lexer.specs.Spellings.{Spelling, same, kind_of, longest, spelled_marks}
 use Rattle.lexer.specs.Editions.{Edition, edition17}
 use Rattle.lexer.specs.Words.{word_length}
-use Rattle.lexer.specs.Lexemes.{skipped_spaces, spaces, comment, word_of, word, number_of, unsigned_number, with_minus}
-use Rattle.lexer.specs.Lexemes.{number, text, mark_of, mark_up_to, mark, or_else, lexeme}
+use Rattle.lexer.specs.Lexemes.{Lexeme, End, Skipped, Token, BadByte, OpenString}
+use Rattle.lexer.specs.Lexemes.{skipped_spaces, spaces, comment, word_of, word}
+use Rattle.lexer.specs.Lexemes.{number_of, unsigned_number, with_minus, number, text, mark_of, mark_up_to, mark, or_else, lexeme}
 use Rattle.lexer.specs.executable.Scans.{lexeme_size}
-use Rattle.lexer.specs.declared.Lexeme.{Lexeme}
-use Rattle.lexer.specs.declared.Lexeme.TheVariants.{End, Skipped, Token, BadByte, OpenString}
 use Rattle.lexer.proofs.Laws.Fronts.{begins_one}
 use Rattle.lexer.proofs.Laws.Lexemes.{no_spaces, no_comment, no_word, no_digits, no_text}
 use Rattle.lexer.proofs.Laws.Tests.{and-false, and_right, and_left, or_else_lem, or_left, or_right, between_range}

@@ -11,9 +11,7 @@ use Rattle.lexer.specs.Tests.{and}
 use Rattle.lexer.specs.internal.Kinds.{arrow}
 use Rattle.lexer.specs.Spellings.{same, kind_of, spelled_marks}
 use Rattle.lexer.specs.Editions.{Edition}
-use Rattle.lexer.specs.Lexemes.{mark_of, mark_up_to, mark}
-use Rattle.lexer.specs.declared.Lexeme.{Lexeme}
-use Rattle.lexer.specs.declared.Lexeme.TheVariants.{Token, BadByte}
+use Rattle.lexer.specs.Lexemes.{Lexeme, Token, BadByte, mark_of, mark_up_to, mark}
 use Rattle.lexer.proofs.Laws.Tests.{and-false}
 use Rattle.lexer.proofs.Laws.Fronts.{front_one}
 use Rattle.lexer.proofs.Laws.Sizes.{kind_empty}

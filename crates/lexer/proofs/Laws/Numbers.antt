@@ -11,8 +11,7 @@ use lib.Seq.{drop-drop}
 use Rattle.lexer.specs.Bytes.{begins_either}
 use Rattle.lexer.specs.Numbers.{digits, with_digits, fraction, sign, exponent}
 use Rattle.lexer.specs.internal.Kinds.{int, float}
-use Rattle.lexer.specs.Lexemes.{number_of, unsigned_number}
-use Rattle.lexer.specs.declared.Lexeme.TheVariants.{Token}
+use Rattle.lexer.specs.Lexemes.{Token, number_of, unsigned_number}
 use Rattle.lexer.proofs.Laws.Tests.{pick_same}
 
 with_some : (n d : ℕ) → 0 < d → with_digits n d ≡ n + d

@@ -9,14 +9,12 @@ use lib.ListN.{length, take, drop, get_or, length-drop}
 use Rattle.lexer.specs.Bytes.{is_space, is_letter, run}
 use Rattle.lexer.specs.Editions.{Edition}
 use Rattle.lexer.specs.Words.{word_length, word_kind, joins}
-use Rattle.lexer.specs.Lexemes.{spaces, word, lexeme}
+use Rattle.lexer.specs.Lexemes.{Lexeme, End, Skipped, Token, BadByte, OpenString, spaces, word, lexeme}
 use Rattle.lexer.specs.executable.Scans.{lexeme_size}
 use Rattle.lexer.specs.Table.{source_limit}
 use Rattle.lexer.specs.internal.Entries.{space_entry, digit_entry, last_entry, byte_entry, has_entry, Bounded}
 use Rattle.lexer.specs.internal.Kinds.{ident, last_kind}
 use Rattle.lexer.specs.internal.Packed.{packing, packed}
-use Rattle.lexer.specs.declared.Lexeme.{Lexeme}
-use Rattle.lexer.specs.declared.Lexeme.TheVariants.{End, Skipped, Token, BadByte, OpenString}
 use Rattle.lexer.proofs.Laws.Entries.{entry_within, entry-below, entry_last, word-bounded, spaces_from, word_from}
 use Rattle.lexer.proofs.Laws.Lexemes.{spaces_some}
 use Rattle.lexer.proofs.Laws.Runs.{run_goes_on, run_ends}

@@ -9,9 +9,8 @@ use lib.ListN.{length, drop, get_or, get_or-eq_default}
 use borrow.Author.Tests.{ltb-true, ltb-false}
 use Rattle.lexer.specs.Spellings.{kind_of}
 use Rattle.lexer.specs.Editions.{Edition}
-use Rattle.lexer.specs.Lexemes.{mark}
+use Rattle.lexer.specs.Lexemes.{BadByte, mark}
 use Rattle.lexer.specs.internal.Packed.{packing, packed}
-use Rattle.lexer.specs.declared.Lexeme.TheVariants.{BadByte}
 use Rattle.lexer.proofs.Laws.Editions.{FitEdition}
 use Rattle.lexer.proofs.Laws.Entries.{MarkTold}
 use Rattle.lexer.proofs.Laws.Marks.{mark_found, no_zero_second, two_found, two_lost, two_enough_at}

@@ -13,14 +13,12 @@ use borrow.Author.Tests.{eqb-true, ltb-true, ltb-false}
 use Rattle.lexer.specs.Tests.{and, or, pick}
 use Rattle.lexer.specs.Bytes.{is_space}
 use Rattle.lexer.specs.Editions.{Edition}
-use Rattle.lexer.specs.Lexemes.{lexeme}
+use Rattle.lexer.specs.Lexemes.{Lexeme, End, Skipped, BadByte, OpenString, lexeme, Token as AToken}
 use Rattle.lexer.specs.Tokens.{Token}
 use Rattle.lexer.specs.Table.{token_width, token_room, token_row, kept}
 use Rattle.lexer.specs.executable.Scans.{Scan, with_token, scan}
 use Rattle.lexer.specs.internal.Leaves.{blank, written}
 use Rattle.lexer.specs.internal.Tokenized.{ended_with, scanned, ended_by}
-use Rattle.lexer.specs.declared.Lexeme.{Lexeme}
-use Rattle.lexer.specs.declared.Lexeme.TheVariants.{End, Skipped, Token as AToken, BadByte, OpenString}
 use Rattle.lexer.proofs.Laws.Fronts.{front_one}
 use Rattle.lexer.proofs.Laws.Sizes.{spelled}
 use Rattle.lexer.proofs.Laws.Scans.{scan_from, scan_from_start, scan_end, scan_skip, scan_token, scan_bad, scan_open}

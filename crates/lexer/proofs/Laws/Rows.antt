@@ -1,15 +1,30 @@
 -- The rows of the token table: how long they are, how one more is written, and what the leaves find in them.
 -- Assumes nothing.
 use Prim.Native.Nat.{ℕ, zero, suc, ◌+◌, ◌*◌, ◌<◌, ◌≤◌}
-use mathlib.Core.Path.{◌≡◌, refl, ◌∙◌, ap}
+use mathlib.Core.Path.{◌≡◌, refl, ◌∙◌, ap, sym}
+use mathlib.Core.Bool.{Bool, true, false}
 use mathlib.Core.List.{List, [], ◌∷◌, ◌++◌, append-nil, append_assoc}
 use native.Mathlib.Omega.{arith}
-use lib.ListN.{length, take, drop, get_or, length-append, length-take, length-drop, get_or-append, get_or-eq_default}
+use native.Mathlib.Nat.{add-zero}
+use lib.ListN.{length, take, drop, set, get_or, length-append, length-take, length-drop, get_or-append, get_or-eq_default}
 use lib.Seq.{sets, sets-eq, take_at, take_all, take-append-le, drop-drop, drop-append-add}
+use lib.Dec.{ltb}
+use borrow.Author.Tests.{ltb-true, ltb-false}
+use Rattle.lexer.specs.Tests.{pick}
 use Rattle.lexer.specs.Tokens.{Token}
 use Rattle.lexer.specs.Table.{token_width, token_room, token_row, token_rows, filled, kept}
 use Rattle.lexer.specs.internal.TokenRows.{rows_of, no_token, row_at}
 use Rattle.lexer.specs.internal.Leaves.{row_numbers, own_numbers}
+use Rattle.lexer.specs.internal.Rows.{number_at}
+
+-- one number more, written one after the other
+pub sets_more : (vs table : List ℕ) (i k : ℕ) → k < length vs
+    → set (sets table i (take k vs)) (i + k) (get_or vs k 0) ≡ sets table i (take (suc k) vs)
+sets_more [] table i k inside = absurd (omega arith)
+sets_more (v ∷ vs) table i zero inside = rw add-zero
+sets_more (v ∷ vs) table i (suc k) inside =
+    let next : i + suc k ≡ suc i + k = omega arith in
+    rw next (sets_more vs (set table i v) (suc i) k (omega arith))
 
 row-length : (source : List ℕ) (t : Token) → length (token_row source t) ≡ token_width
 unfolding token_row
@@ -146,6 +161,15 @@ module _ (table : List ℕ) (row column : ℕ) (w : column < token_width) where
       zeros (suc zero) = refl
       zeros (suc (suc zero)) = refl
       zeros (suc (suc (suc k))) = refl
+
+  -- .. and so the number that a table of rows has there is what the row says
+  by_room : (t : Bool) → ltb row (token_room table) ≡ t
+      → pick t (get_or table (row * token_width + column) 0) 0 ≡ get_or (own_numbers (row_at table row)) column 0
+  by_room true h = row_number (ltb-true _ _ h)
+  by_room false h = sym (no_row (ltb-false _ _ h))
+
+  pub own_number : number_at token_width table row column ≡ get_or (own_numbers (row_at table row)) column 0
+  own_number = by_room (ltb row (token_room table)) refl
 
 -- the rows of a filled table begin with the tokens, so that a leaf finds the token of its row
 rows_of-rows : (source : List ℕ) (ts : List Token) (rest : List ℕ) → rows_of (token_rows source ts ++ rest) ≡ ts ++ rows_of rest

@@ -1,14 +1,18 @@
 -- How far a class of bytes runs, at a place of a list. Assumes nothing.
 use Prim.Native.Nat.{ℕ, zero, suc, ◌+◌, ◌-◌, ◌≤◌, ◌<◌, zero-le, suc-le-suc}
-use mathlib.Core.Path.{◌≡◌, refl, ◌∙◌, sym}
-use mathlib.Core.Bool.{Bool, true, false}
+use mathlib.Core.Path.{◌≡◌, refl, ◌∙◌, sym, ap}
+use mathlib.Core.Bool.{Bool, true, false, cond, not, ◌||◌}
 use mathlib.Core.List.{List, [], ◌∷◌}
-use lib.ListN.{length, drop, get_or, drop_of_length-le}
-use lib.Seq.{drop-cons}
+use lib.Dec.{eqb}
+use lib.ListN.{length, take, drop, get_or, length-drop, drop_of_length-le}
+use lib.Seq.{drop-cons, drop-drop}
 use native.Mathlib.Numerals.{add-one}
 use native.Mathlib.Omega.{arith}
-use native.Mathlib.Nat.{add-zero, add-suc, suc-add}
+use native.Mathlib.Nat.{zero-add, add-zero, add-suc, suc-add, add_assoc}
 use borrow.Author.Tests.{eq-eqb, ne_eqb}
+use Rattle.std.specs.List.{prefix_len, list_any}
+use Rattle.std.proofs.lemmas.Bool.{false≢true}
+use Rattle.lexer.specs.Tests.{pick}
 use Rattle.lexer.specs.Bytes.{run}
 use Rattle.lexer.specs.internal.Leaves.{is_not, Goes}
 
@@ -23,6 +27,16 @@ run_pass p b s h = rw h
 pub run_stop : (p : ℕ → Bool) (b : ℕ) (s : List ℕ) → p b ≡ false → run p (b ∷ s) ≡ 0
 unfolding run
 run_stop p b s h = rw h
+
+-- std counts the same
+pub run_prefix : (p : ℕ → Bool) (s : List ℕ) → prefix_len p s ≡ run p s
+unfolding run
+run_prefix p [] = refl
+run_prefix p (b ∷ s) = by (p b) (run_prefix p s)
+  where
+    by : (t : Bool) → prefix_len p s ≡ run p s → cond t (1 + prefix_len p s) 0 ≡ pick t (suc (run p s)) 0
+    by true h = ap (λ (n : ℕ). 1 + n) h ∙ (let e : 1 + run p s ≡ suc (run p s) = omega arith in e)
+    by false h = refl
 
 run_le_by : (p : ℕ → Bool) (b : ℕ) (s : List ℕ) (t : Bool) → p b ≡ t → run p s ≤ length s → run p (b ∷ s) ≤ suc (length s)
 run_le_by p b s true h below = rw (run_pass p b s h) (suc-le-suc below)
@@ -99,3 +113,46 @@ is_stop stop b h = rw (eq-eqb b stop h)
 
 pub is_other : (stop b : ℕ) → (b ≡ stop → ⊥) → is_not stop b ≡ true
 is_other stop b h = rw (ne_eqb b stop h)
+
+-- whether some bytes at the front have the byte that ends a run, and how far the run goes
+module _ (stop : ℕ) where
+  abbrev stops_in : List ℕ → Bool
+  stops_in = list_any (λ (b : ℕ). eqb b stop)
+
+  none_stops : (n : ℕ) (s : List ℕ) → n ≤ length s → stops_in (take n s) ≡ false → n + run (is_not stop) (drop n s) ≡ run (is_not stop) s
+  none_stops zero s h none = zero-add _
+  none_stops (suc n) [] h none = absurd (omega arith)
+  none_stops (suc n) (b ∷ s) h none = by (eqb b stop) refl none (none_stops n s (omega arith))
+    where
+      by : (t : Bool) → eqb b stop ≡ t → (t || stops_in (take n s)) ≡ false
+          → (stops_in (take n s) ≡ false → n + run (is_not stop) (drop n s) ≡ run (is_not stop) s)
+          → suc n + run (is_not stop) (drop n s) ≡ run (is_not stop) (b ∷ s)
+      by true e none more = absurd (false≢true (sym none))
+      by false e none more = rw (suc-add, run_pass (is_not stop) b s (ap not e)) (ap (λ (k : ℕ). suc k) (more none))
+
+  one_stops : (n : ℕ) (s : List ℕ) → stops_in (take n s) ≡ true → run (is_not stop) s < length s
+  one_stops zero s one = absurd (false≢true one)
+  one_stops (suc n) [] one = absurd (false≢true one)
+  one_stops (suc n) (b ∷ s) one = by (eqb b stop) refl one (one_stops n s)
+    where
+      by : (t : Bool) → eqb b stop ≡ t → (t || stops_in (take n s)) ≡ true → (stops_in (take n s) ≡ true → run (is_not stop) s < length s)
+          → run (is_not stop) (b ∷ s) < suc (length s)
+      by true e one more = rw (run_stop (is_not stop) b s (ap not e)) (omega arith)
+      by false e one more = rw (run_pass (is_not stop) b s (ap not e)) (suc-le-suc (more one))
+
+  -- the same of a part that begins at a place
+  module _ (s : List ℕ) (at n : ℕ) (inside : at + n ≤ length s) where
+    part : at + n - at ≡ n
+    part = omega arith
+
+    pub block_goes : stops_in (take (at + n - at) (drop at s)) ≡ false → Goes (is_not stop) s at (at + n)
+    block_goes none =
+        let rest = length-drop at s in
+        let on = none_stops n (drop at s) (omega arith) (rw part at none) in
+        ap (λ (t : List ℕ). at + n + run (is_not stop) t) (sym (drop-drop n at s)) ∙ add_assoc at n _ ∙ ap (λ (k : ℕ). at + k) on
+
+    pub block_ends : stops_in (take (at + n - at) (drop at s)) ≡ true → at + run (is_not stop) (drop at s) < length s
+    block_ends one =
+        let rest = length-drop at s in
+        let ends = one_stops n (drop at s) (rw part at one) in
+        omega arith

@@ -8,12 +8,10 @@ use native.Mathlib.Nat.{not-suc-le-zero}
 use lib.ListN.{length, drop, length-drop}
 use lib.Seq.{drop-drop}
 use Rattle.lexer.specs.Editions.{Edition}
-use Rattle.lexer.specs.Lexemes.{lexeme}
+use Rattle.lexer.specs.Lexemes.{Lexeme, End, Skipped, BadByte, OpenString, lexeme}
 use Rattle.lexer.specs.executable.Scans.{lexeme_size, follow, lexemes_within, lexemes, located, scan, Scan, cleanly, fault_after}
 use Rattle.lexer.specs.executable.Scans.{with_token}
 use Rattle.lexer.specs.Tokens.{Token}
-use Rattle.lexer.specs.declared.Lexeme.{Lexeme}
-use Rattle.lexer.specs.declared.Lexeme.TheVariants.{End, Skipped, BadByte, OpenString}
 use Rattle.lexer.proofs.Laws.Sizes.{Proper, of_token, of_skip, spelled, proper}
 
 -- what follows a lexeme counts only where the lexeme takes bytes

@@ -17,10 +17,9 @@ use Rattle.lexer.specs.Spellings.{Spelling, same, kind_of, longest, reserved}
 use Rattle.lexer.specs.Editions.{Edition}
 use Rattle.lexer.specs.Words.{word_length, or_ident, word_kind, ident_length, two_colons, joins_within, joins}
 use Rattle.lexer.specs.Numbers.{digits, with_digits, fraction, sign, exponent}
-use Rattle.lexer.specs.Lexemes.{skipped_spaces, spaces, comment, word_of, word, number_of, unsigned_number, with_minus, number, text}
-use Rattle.lexer.specs.Lexemes.{mark_of, mark_up_to, mark, or_else, lexeme}
-use Rattle.lexer.specs.declared.Lexeme.{Lexeme}
-use Rattle.lexer.specs.declared.Lexeme.TheVariants.{End, Skipped, Token, BadByte, OpenString}
+use Rattle.lexer.specs.Lexemes.{Lexeme, End, Skipped, Token, BadByte, OpenString}
+use Rattle.lexer.specs.Lexemes.{skipped_spaces, spaces, comment, word_of, word}
+use Rattle.lexer.specs.Lexemes.{number_of, unsigned_number, with_minus, number, text, mark_of, mark_up_to, mark, or_else, lexeme}
 use Rattle.lexer.proofs.Laws.Tests.{and-false, and_left, and_right}
 use Rattle.lexer.proofs.Laws.Runs.{run_le}
 use Rattle.lexer.proofs.Laws.Words.{word_le}

@@ -9,12 +9,10 @@ use lib.ListN.{length, take, drop, length-drop, take-append-drop}
 use lib.Seq.{length-take-le, drop-append_seam}
 use Rattle.lexer.specs.Bytes.{is_space, is_in_line, run}
 use Rattle.lexer.specs.Editions.{Edition}
-use Rattle.lexer.specs.Lexemes.{lexeme}
+use Rattle.lexer.specs.Lexemes.{Lexeme, End, Skipped, BadByte, OpenString, lexeme}
 use Rattle.lexer.specs.Tokens.{Token, Ending, Tiles, ended, skips_space, skips_comment, finds_token, meets_bad_byte}
 use Rattle.lexer.specs.Tokens.{meets_open_string}
 use Rattle.lexer.specs.executable.Scans.{Scan, with_token, scan}
-use Rattle.lexer.specs.declared.Lexeme.{Lexeme}
-use Rattle.lexer.specs.declared.Lexeme.TheVariants.{End, Skipped, BadByte, OpenString}
 use Rattle.lexer.proofs.Laws.Runs.{run_le}
 use Rattle.lexer.proofs.Laws.Sizes.{of_end, of_token, spelled, proper}
 use Rattle.lexer.proofs.Laws.Scans.{scan_at, scan_at_start, at-end, at_token, at_bad, at_open}

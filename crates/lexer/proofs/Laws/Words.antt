@@ -1,22 +1,21 @@
 -- Words, IDENTs and joins, as the tokeniser finds them. Assumes nothing.
 use Prim.Native.Char.{code}
-use Prim.Native.Nat.{ℕ, zero, suc, ◌+◌, ◌≤◌, ◌<◌, zero-le, suc-le-suc}
-use mathlib.Core.Path.{◌≡◌, refl, ◌∙◌, ap}
+use Prim.Native.Nat.{ℕ, zero, suc, ◌+◌, ◌-◌, ◌≤◌, ◌<◌, zero-le, suc-le-suc}
+use mathlib.Core.Path.{◌≡◌, refl, ◌∙◌, ap, sym}
 use mathlib.Core.Bool.{Bool, true, false}
 use mathlib.Core.List.{List, [], ◌∷◌}
 use native.Mathlib.Omega.{arith}
-use native.Mathlib.Nat.{not-suc-le-zero, add_assoc}
+use native.Mathlib.Nat.{not-suc-le-zero, add_assoc, add-zero}
 use lib.Dec.{eqb, ltb}
 use lib.ListN.{length, take, drop, get_or, length-drop}
-use lib.Seq.{drop-drop}
+use lib.Seq.{drop-drop, get_or-drop}
 use borrow.Author.Tests.{lt-ltb, ne_eqb}
 use Rattle.lexer.specs.Tests.{and, pick}
 use Rattle.lexer.specs.internal.Kinds.{ident}
 use Rattle.lexer.specs.Bytes.{is_letter, is_word_byte, run}
 use Rattle.lexer.specs.Spellings.{same, kind_of, reserved}
 use Rattle.lexer.specs.Words.{word_length, or_ident, word_kind, ident_length, two_colons, joins_within, joins}
-use Rattle.lexer.specs.Lexemes.{word_of, word}
-use Rattle.lexer.specs.declared.Lexeme.TheVariants.{Token, BadByte}
+use Rattle.lexer.specs.Lexemes.{Token, BadByte, word_of, word}
 use Rattle.lexer.proofs.Laws.Tests.{and-false}
 use Rattle.lexer.proofs.Laws.Fronts.{front_one}
 use Rattle.lexer.proofs.Laws.Runs.{run_le}
@@ -95,6 +94,10 @@ module _ (s : List ℕ) where
       let e = joins_enough (length s) (length (drop (2 + n) s)) (drop (2 + n) s) (simp length-drop (omega arith)) (omega arith) in
       joins_opened s ∙ rw (h, lt-ltb 0 n more) (ap (λ (r : ℕ). 2 + n + r) e)
 
+-- a word that ends after one byte has the length 1
+pub one_byte : (s : List ℕ) (at end : ℕ) → end ≡ at + word_length (drop at s) → end - at ≡ 1 → word_length (drop at s) ≡ 1
+one_byte s at end is h = omega arith
+
 module _ (s : List ℕ) (at : ℕ) (one : word_length (drop at s) ≡ 1) where
   pub one_inside : at < length s
   one_inside =
@@ -109,6 +112,16 @@ module _ (s : List ℕ) (at : ℕ) (one : word_length (drop at s) ≡ 1) where
   ident-one_at =
       let e = front_one s at one_inside in
       rw e (ident-one _ _ (rw e at one))
+
+-- two colons stand where both bytes are one
+colons_front : (s : List ℕ) → two_colons s ≡ and (eqb (get_or s 0 0) (code ":")) (eqb (get_or s 1 0) (code ":"))
+unfolding two_colons and
+colons_front [] = refl
+colons_front (a ∷ []) = sym (and-false (eqb a (code ":")))
+colons_front (a ∷ b ∷ s) = refl
+
+pub colons_at : (s : List ℕ) (at : ℕ) → two_colons (drop at s) ≡ and (eqb (get_or s at 0) (code ":")) (eqb (get_or s (at + 1) 0) (code ":"))
+colons_at s at = rw (colons_front (drop at s), get_or-drop at s 0 0, get_or-drop at s 1 0, add-zero)
 
 pub colons_other : (a : ℕ) (s : List ℕ) → (a ≡ code ":" → ⊥) → two_colons (a ∷ s) ≡ false
 unfolding two_colons and

@@ -2,10 +2,8 @@
 use Rattle.std.specs.Prelude.{ℕ, zero, suc, ◌+◌, List, [], ◌∷◌, length, drop}
 use Rattle.lexer.specs.Refusals.{refusal_number}
 use Rattle.lexer.specs.Editions.{Edition}
-use Rattle.lexer.specs.Lexemes.{lexeme}
+use Rattle.lexer.specs.Lexemes.{Lexeme, End, Skipped, BadByte, OpenString, lexeme}
 use Rattle.lexer.specs.Tokens.{Token, Ending, clean, fault}
-use Rattle.lexer.specs.declared.Lexeme.{Lexeme}
-use Rattle.lexer.specs.declared.Lexeme.TheVariants.{End, Skipped, BadByte, OpenString}
 
 -- how many bytes a lexeme takes
 unfoldable pub lexeme_size : Lexeme → ℕ

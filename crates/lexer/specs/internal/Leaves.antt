@@ -8,6 +8,8 @@ use Rattle.lexer.specs.Bytes.{is_digit, is_letter, is_space, run}
 use Rattle.lexer.specs.Tokens.{Token}
 use Rattle.lexer.specs.Table.{token_width, token_room}
 use Rattle.lexer.specs.declared.table.TokenRow.{TokenRow}
+use Rattle.lexer.specs.declared.bytes.ByteClass.{ByteClass}
+use Rattle.lexer.specs.declared.bytes.ByteClass.TheVariants.{Digit, Letter, Space, Minus, Slash, Backtick, Other}
 
 -- the class of a byte by what a lexeme that begins with it is: 0 a number, 1 a word, 2 spaces, 3 a number or a mark, 4 a
 -- comment or a mark, 5 a string, 6 a mark or nothing
@@ -19,6 +21,16 @@ byte_class b =
     (pick (eqb b (code "-")) 3
     (pick (eqb b (code "/")) 4
     (pick (eqb b (code "`")) 5 6)))))
+
+-- these numbers of the classes by their names in the code
+abbrev pub class_number : ByteClass → ℕ
+class_number Digit = 0
+class_number Letter = 1
+class_number Space = 2
+class_number Minus = 3
+class_number Slash = 4
+class_number Backtick = 5
+class_number Other = 6
 
 -- whether a byte is another than the one that ends a run
 abbrev pub is_not : ℕ → ℕ → Bool

@@ -1,7 +1,6 @@
 -- A lexeme as one number, so that it need not go through memory.
 use Rattle.std.specs.Prelude.{ℕ, ◌+◌, ◌*◌}
-use Rattle.lexer.specs.declared.Lexeme.{Lexeme}
-use Rattle.lexer.specs.declared.Lexeme.TheVariants.{End, Skipped, Token, BadByte, OpenString}
+use Rattle.lexer.specs.Lexemes.{Lexeme, End, Skipped, Token, BadByte, OpenString}
 
 -- more than any place in a source
 abbrev pub packing : ℕ

@@ -1,15 +1,24 @@
 -- What the tokeniser answers, and what it leaves in the token table.
-use Rattle.std.specs.Prelude.{ℕ, List, [], ◌∷◌, ltb, leb, length}
+use Rattle.std.specs.Prelude.{ℕ, List, [], ◌∷◌, Result, Ok, Err, ltb, leb, length}
 use Rattle.lexer.specs.Refusals.{refusal_number}
 use Rattle.lexer.specs.Tests.{pick}
 use Rattle.lexer.specs.Editions.{Edition}
 use Rattle.lexer.specs.Tokens.{Token, Ending, clean, fault}
 use Rattle.lexer.specs.executable.Scans.{Scan, scan}
-use Rattle.lexer.specs.declared.Lexeme.{Lexeme}
-use Rattle.lexer.specs.declared.Lexeme.TheVariants.{End, Skipped, BadByte, OpenString}
-use Rattle.lexer.specs.declared.Scanned.{Scanned}
-use Rattle.lexer.specs.declared.Scanned.TheVariants.{Tokens, Refused}
+use Rattle.lexer.specs.Lexemes.{Lexeme, End, Skipped, BadByte, OpenString}
 use Rattle.lexer.specs.Table.{source_limit, token_room, filled}
+use Rattle.lexer.specs.internal.RefusalNumbers.{reason_number}
+use Rattle.lexer.specs.declared.refusals.Refusal.{Refusal}
+
+-- the answer of a pass over a whole source: the number of its tokens, or a refusal's number and place
+pub data Scanned : Type 0 where
+  Tokens : ℕ → Scanned
+  Refused : ℕ → ℕ → Scanned
+
+-- the code's answer as one of these
+abbrev pub as_scanned : Result ℕ Refusal → Scanned
+as_scanned (Ok count) = Tokens count
+as_scanned (Err refusal) = Refused (reason_number refusal.reason) refusal.place
 
 -- so many tokens, or the fault
 unfoldable pub ended_with : ℕ → Ending → Scanned

@@ -8,21 +8,21 @@ use native.Mathlib.Omega.{arith}
 use lib.Dec.{leb, ltb}
 use lib.ListN.{length, take}
 use borrow.Author.Tests.{leb-true, leb-false, ltb-false, le-ltb}
+use Rattle.std.specs.Prelude.{Result as Either, IsErrAnd}
+use Rattle.std.proofs.lemmas.Result.{err_from_is_err_and}
 use Rattle.lexer.specs.Tests.{pick}
 use Rattle.lexer.specs.Editions.{edition17}
 use Rattle.lexer.specs.Tokens.{Token, Ending, clean, fault}
 use Rattle.lexer.specs.executable.Scans.{cleanly, scan}
 use Rattle.lexer.specs.Table.{source_limit, token_width, token_room, filled}
 use Rattle.lexer.specs.internal.TokenRows.{rows_of}
-use Rattle.lexer.specs.internal.Tokenized.{ended_with, scanned, counted, with_room, after_answer, tokenized, table_after}
-use Rattle.lexer.specs.declared.Scanned.TheVariants.{Tokens}
-use Rattle.lexer.specs.declared.Scanned.{Scanned}
+use Rattle.lexer.specs.internal.RefusalNumbers.{reason_number}
+use Rattle.lexer.specs.declared.refusals.Refusal.{Refusal}
+use Rattle.lexer.specs.internal.Tokenized.{Scanned, Tokens, ended_with, scanned, counted, with_room, after_answer, tokenized, table_after}
 use Rattle.lexer.proofs.Laws.Rows.{filled-length, filled-rows}
 use Rattle.lexer.proofs.Laws.Editions.{spelled17}
 use Rattle.lexer.proofs.Laws.Places.{fault-placed}
-use Rattle.typenames.specs.NameList.{name_limit, entries, first_bad, checked}
-use Rattle.typenames.specs.declared.Checked.{Checked}
-use Rattle.typenames.specs.declared.Checked.TheVariants.{Good}
+use Rattle.typenames.specs.NameList.{Checked, Good, name_limit, entries, first_bad, checked}
 use Rattle.typenames.proofs.Laws.Entries.{checked_two}
 use Rattle.tree.specs.TreeTable.{tree_room}
 use Rattle.grammar.specs.executable.Reading.{Outcome, ok, stuck, deep, spent}
@@ -37,7 +37,12 @@ use Rattle.answer.specs.declared.Answer.TheVariants.{Refused}
 use Rattle.answer.proofs.Laws.Readable.{readable_scan, scan_readable, fault_tiles}
 use Rattle.answer.proofs.Laws.Answers.{read_result}
 use Rattle.answer.proofs.Theorem.{answer_meets}
-use Rattle.nurl.specs.internal.Results.{tree_result}
+use Rattle.parser.specs.declared.Place.{Place}
+use Rattle.nurl.specs.internal.Results.{tree_result, answered}
+
+-- what a `?` answers where it leaves
+pub left_by : (r : Either Place Refusal) (d : Refusal) → IsErrAnd r (λ (y : Refusal). y ≡ d) → answered r ≡ Refused (reason_number d.reason) d.place
+left_by r d h = let p = err_from_is_err_and r h in rw (p.1, p.2)
 
 -- a result is the answer, and so has the demands and the answer's numbers
 pub meets : (source names tokens rows : List ℕ) (r : Result) → r ≡ answer17 source names tokens rows

@@ -37,10 +37,8 @@ use Rattle.grammar.proofs.Laws.Nurl17.{theorems17}
 use Rattle.answer.specs.executable.Answers.{judged, result}
 use Rattle.answer.specs.Results.{level_limit}
 use Rattle.answer.specs.declared.Answer.TheVariants.{Accepted, Refused}
-use Rattle.parser.specs.internal.Steps.{Tokens}
+use Rattle.parser.specs.internal.Steps.{Tokens, Step, Read}
 use Rattle.parser.specs.internal.Readings.{Gives, Reads, read, refused6, refused7, refused_before, ReadsWhole}
-use Rattle.parser.specs.declared.Step.{Step}
-use Rattle.parser.specs.declared.Step.TheVariants.{Read}
 use Rattle.parser.proofs.Laws.WholeRows.{cleared-put}
 use Rattle.nurl.specs.internal.Results.{tree_result}
 

@@ -22,8 +22,8 @@ use Rattle.grammar.specs.internal.Productions.{rule_of}
 use Rattle.parser.specs.internal.Readings.{Gives, Reads, read, refused6, refused7}
 use Rattle.parser.specs.internal.Steps.{Within, inside, elsewhere, Spans, spans, from_refused, to_refused, Small, small, over}
 use Rattle.parser.specs.internal.Steps.{refused_at, taken_by, opened, row_left, closed}
-use Rattle.parser.specs.declared.Step.{Step}
-use Rattle.parser.specs.declared.Step.TheVariants.{Read, Refused}
+use Rattle.parser.specs.internal.Steps.{Step}
+use Rattle.parser.specs.internal.Steps.{Read, Refused}
 use Rattle.parser.specs.internal.Readings as readings
 use Rattle.parser.proofs.Laws.Gives.{after, wrapped, Takes, takes, vain, gives_end, gives_token, gives_token-stuck, gives_held}
 use Rattle.parser.proofs.Laws.Gives.{gives_none, gives_within, gives_then, gives_then_stuck, gives_then_deep, takes_inlined}

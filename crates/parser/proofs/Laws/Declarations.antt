@@ -31,8 +31,8 @@ use Rattle.grammar.proofs.Laws.Alternatives17.{declaration_interface, declaratio
 use Rattle.grammar.proofs.Laws.Alternatives17.{function_one, interface_one}
 use Rattle.parser.specs.internal.Readings.{Reads}
 use Rattle.parser.specs.internal.Steps.{Tokens, Within, next_kind, begins_part, refused_at, taken_kind, taken_if, opened}
-use Rattle.parser.specs.declared.Step.{Step}
-use Rattle.parser.specs.declared.Step.TheVariants.{Read}
+use Rattle.parser.specs.internal.Steps.{Step}
+use Rattle.parser.specs.internal.Steps.{Read}
 use Rattle.parser.proofs.Laws.After.{After, went, list_more, list_done}
 use Rattle.parser.proofs.Laws.Views.{class_low, names_fixed}
 use Rattle.parser.proofs.Laws.Readers.{few_numbers, rowed, begun_at, none_stuck, row-deep, name-marks, took_mark, took_name}

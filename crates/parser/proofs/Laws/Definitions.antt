@@ -32,8 +32,8 @@ use Rattle.grammar.proofs.Laws.Alternatives17.{variants_done, variant_one, paylo
 use Rattle.parser.specs.internal.Readings.{Reads}
 use Rattle.parser.specs.internal.Steps.{Tokens, Within, next_kind, begins_part, asked_at, AnswersKinds, payload_begins, refused_at}
 use Rattle.parser.specs.internal.Steps.{taken_kind, taken_if, opened, row_left}
-use Rattle.parser.specs.declared.Step.{Step}
-use Rattle.parser.specs.declared.Step.TheVariants.{Read, Refused}
+use Rattle.parser.specs.internal.Steps.{Step}
+use Rattle.parser.specs.internal.Steps.{Read, Refused}
 use Rattle.parser.proofs.Laws.Gives.{gives_deep, barred_part, barred_condition, barred_skip, Takes, takes, vain}
 use Rattle.parser.proofs.Laws.After.{After, begun_part, went, looked, spoken, held, wider, done, deep-at, fewer, list_more}
 use Rattle.parser.proofs.Laws.After.{list_done, after_within, within_wider}

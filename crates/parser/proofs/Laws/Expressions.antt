@@ -1,13 +1,16 @@
 -- The productions of expressions read step by step, up to the row that is to be closed. Assumes nothing.
-use Prim.Native.Nat.{ℕ, zero, suc, ◌-◌, ◌<◌, ◌≤◌}
+use Prim.Native.Nat.{ℕ, zero, suc, ◌-◌, ◌<◌}
 use mathlib.Core.Path.{◌≡◌, refl, ap, ◌∙◌, sym}
-use mathlib.Core.Bool.{Bool, true, false}
+use mathlib.Core.Bool.{Bool, true, false, not}
 use mathlib.Core.List.{List, [], ◌∷◌}
 use native.Mathlib.Nat.{pos_of_ne-zero}
 use native.Mathlib.Omega.{arith}
-use lib.Dec.{eqb, leb, ltb}
+use lib.Dec.{eqb, ltb}
 use lib.ListN.{replicate}
 use borrow.Author.Tests.{eqb-true, eq-eqb, ne_eqb, lt-ltb, ltb-true}
+use Rattle.std.proofs.lemmas.Bool.{not-true, not-false, eqb-false}
+use Rattle.std.specs.Prelude.{Option, Some, None}
+use Rattle.std.specs.Option.{option_eq}
 use Rattle.lexer.specs.Tests.{and, or, between, among}
 use Rattle.lexer.specs.internal.Kinds.{ident, int, bar, at, left_brace, right_brace, left_paren, right_paren, right_bracket, star, arrow}
 use Rattle.lexer.specs.Table.{token_room}
@@ -19,6 +22,11 @@ use Rattle.grammar.specs.Grammars.{query, Symbol, token, derived, when, unless, 
 use Rattle.grammar.specs.Grammars.{View, asked, met}
 use Rattle.grammar.specs.Rows.{levels}
 use Rattle.grammar.specs.executable.Reading.{deep, none, selected, choice}
+use Rattle.grammar.specs.internal.Forms.{expression_form_number}
+use Rattle.grammar.specs.declared.forms.ExpressionForm.{ExpressionForm}
+use Rattle.grammar.specs.declared.forms.ExpressionForm.TheVariants.{Literal, Name, Binary, Not, Return, Complement, Try, Sizeof, Conditional, Block}
+use Rattle.grammar.specs.declared.forms.ExpressionForm.TheVariants.{Call, Slice as SliceExpression, Aggregate, Member, Cast, Match}
+use Rattle.grammar.specs.contracts.forms.ExpressionFormPartialEq.TheImpl.{eq-value as same_form}
 use Rattle.grammar.specs.internal.Nonterminals.{parameters, block, statements, expressions, expression, literal, try_or_closure}
 use Rattle.grammar.specs.internal.Nonterminals.{type_arguments, cast_rest, selector, arms, type}
 use Rattle.grammar.specs.internal.Classes.{literals}
@@ -39,19 +47,20 @@ use Rattle.grammar.proofs.Laws.Alternatives17.{literal_none, block_one, expressi
 use Rattle.grammar.proofs.Laws.Alternatives17.{cast_rest_other, cast_rest_none, try_or_closure_closure, try_or_closure_closure_arrow}
 use Rattle.grammar.proofs.Laws.Alternatives17.{try_or_closure_try, try_or_closure_none}
 use Rattle.grammar.proofs.Laws.Alternatives17 as alternatives
-use Rattle.parser.specs.internal.Readings.{Gives, Reads}
+use Rattle.parser.specs.internal.Readings.{Gives, Reads, refused_before}
 use Rattle.parser.specs.internal.Steps.{Tokens, Within, next_kind, kinds_at, begins_part, asked_at, AnswersKinds, refused_at, taken_kind}
 use Rattle.parser.specs.internal.Steps.{opened, closed}
-use Rattle.parser.specs.declared.Step.{Step}
-use Rattle.parser.specs.declared.Step.TheVariants.{Read}
+use Rattle.parser.specs.internal.Steps.{Step}
+use Rattle.parser.specs.internal.Steps.{Read, Refused}
+use Rattle.parser.specs.internal.Operators.{Elements, slice_elements, aggregate_elements}
 use Rattle.parser.proofs.Laws.Operators.{Operator, binary, negation, return, complement, conditional, member}
 use Rattle.parser.proofs.Laws.After.{After, start, went, looked, spoken, held, wider, done, deep-at, list_more, list_done}
 use Rattle.parser.proofs.Laws.Views.{class-kind, class_low, class_shows, names_fixed}
 use Rattle.parser.proofs.Laws.Gives.{gives_deep, gives_inlined, barred_part, barred_condition, Takes, takes, vain}
-use Rattle.parser.proofs.Laws.Readers.{opens_with, rowed, rowed-deep, few_numbers, closed_by, reached, none_stuck, row-deep}
+use Rattle.parser.proofs.Laws.Readers.{opens_with, rowed, rowed-deep, closed_by, reached, none_stuck, row-deep}
 use Rattle.parser.proofs.Laws.Readers.{begun_by, begun_at, took_mark, took_name, looked_by, begins_there, none_there}
 use Rattle.parser.proofs.Laws.Readers.{alternative_is, passes_on}
-use Rattle.parser.proofs.Laws.Openings.{Begins, expression_name_begins, expression_binary_begins, expression_not_begins}
+use Rattle.parser.proofs.Laws.Openings.{form_number, Begins, expression_name_begins, expression_binary_begins, expression_not_begins}
 use Rattle.parser.proofs.Laws.Openings.{expression_return_begins, expression_complement_begins, expression_backslash_begins}
 use Rattle.parser.proofs.Laws.Openings.{expression_sizeof_begins, expression_conditional_begins, expression_call_begins}
 use Rattle.parser.proofs.Laws.Openings.{expression_slice_begins, expression_aggregate_begins, expression_member_begins}
@@ -60,6 +69,48 @@ use Rattle.parser.proofs.Laws.Questions.{closure_kinds, closure_opens, bit_next}
 use Rattle.parser.proofs.Laws.Steps.{asked_here, met_here}
 use Rattle.parser.proofs.Laws.Options.{mark_met}
 use Rattle.parser.proofs.Laws.Types.{type-none}
+
+-- the alternative that begins where the code found this form
+pub expression_here : {kind next : ℕ} {known : Option ExpressionForm} {form it : ExpressionForm} → kind ≡ next
+    → expression_form_number known ≡ kind_alternative expression kind → known ≡ Some form → form ≡ it
+    → kind_alternative expression next ≡ expression_form_number (Some it)
+expression_here = form_number expression_form_number expression
+
+-- the form of a literal is the one with its number
+literal_form : (form : Option ExpressionForm) → option_eq same_form.it form (Some Literal) ≡ eqb (expression_form_number form) 1
+literal_form None = refl
+literal_form (Some Literal) = refl
+literal_form (Some Name) = refl
+literal_form (Some Binary) = refl
+literal_form (Some Not) = refl
+literal_form (Some Return) = refl
+literal_form (Some Complement) = refl
+literal_form (Some Try) = refl
+literal_form (Some Sizeof) = refl
+literal_form (Some Conditional) = refl
+literal_form (Some Block) = refl
+literal_form (Some Call) = refl
+literal_form (Some SliceExpression) = refl
+literal_form (Some Aggregate) = refl
+literal_form (Some Member) = refl
+literal_form (Some Cast) = refl
+literal_form (Some Match) = refl
+
+-- where the code tests a form for the literal's: a literal begins there, or none
+module _ (form : Option ExpressionForm) {kind next : ℕ} {b : Bool} (here : kind ≡ next)
+    (made : expression_form_number form ≡ kind_alternative expression kind) (test : b ≡ not (option_eq same_form.it form (Some Literal))) where
+  pub literal_here : b ≡ false → kind_alternative expression next ≡ 1
+  literal_here is =
+      ap (kind_alternative expression) (sym here) ∙ sym made ∙ eqb-true _ _ (sym (literal_form form) ∙ not-false _ (sym test ∙ is))
+
+  pub none_here : b ≡ true → kind_alternative expression next ≡ 1 → ⊥
+  none_here is one =
+      eqb-false _ _ (sym (literal_form form) ∙ not-true _ (sym test ∙ is)) (made ∙ ap (kind_alternative expression) here ∙ one)
+
+-- what begins a type and its elements is an alternative
+pub elements_some : {a before after kind : ℕ} → Elements a before after kind → 0 < a
+elements_some slice_elements = omega arith
+elements_some aggregate_elements = omega arith
 
 -- a token whose kind passes one test passes another
 unfoldable leads : (ℕ → Bool) → (ℕ → Bool) → Bool
@@ -133,14 +184,6 @@ unfolding opens_some kinds_at
 opens_some_lem tokens j h =
     or_some (among closure_kinds (kind_at tokens j)) _ _ _ _ (and_left (eqb (kind_at tokens j) left_paren) _)
     (and_left (eqb (kind_at tokens j) ident) _) h
-
--- there are sixteen alternatives
-few : below (λ (k : ℕ). leb (kind_number expression k) 16) classes ≡ true
-unfolding below and kind_number
-few = refl
-
-pub expression_few : (k : ℕ) → kind_alternative expression k ≤ 16
-expression_few = few_numbers expression 16 few
 
 module _ (source tokens : List ℕ) (good : Tokens tokens) (e : Names) where
   abbrev v : View
@@ -400,7 +443,7 @@ module _ (source tokens : List ℕ) (good : Tokens tokens) (e : Names) where
       took_mark source tokens good e right_paren a₃ refl to₄
 
   -- `[` type `|` expression* `]`
-  pub slice : {n below : ℕ} {s s₀ s₁ s₂ s₃ s₄ : Step} {t t₁ t₂ : List ℕ} → kind_alternative expression (next_kind tokens s) ≡ 12
+  slice : {n below : ℕ} {s s₀ s₁ s₂ s₃ s₄ : Step} {t t₁ t₂ : List ℕ} → kind_alternative expression (next_kind tokens s) ≡ 12
       → Within tokens 1 s → n ≡ suc below → s₀ ≡ opened s → Part below 1 type s₀ t s₁ t₁ → s₂ ≡ taken_kind tokens bar s₁
       → Part below 0 expressions s₂ t₁ s₃ t₂ → s₄ ≡ taken_kind tokens right_bracket s₃ → Under expression n below (gives_row slice_row) 4 [] s t s₄ t₂
   unfolding levels between and
@@ -411,7 +454,7 @@ module _ (source tokens : List ℕ) (good : Tokens tokens) (e : Names) where
       took_mark source tokens good e right_bracket (went productions v tokens e fixed a₂ d₃) refl to₄
 
   -- `@` type `{` expression* `}`
-  pub aggregate : {n below : ℕ} {s s₀ s₁ s₂ s₃ s₄ : Step} {t t₁ t₂ : List ℕ} → kind_alternative expression (next_kind tokens s) ≡ 13
+  aggregate : {n below : ℕ} {s s₀ s₁ s₂ s₃ s₄ : Step} {t t₁ t₂ : List ℕ} → kind_alternative expression (next_kind tokens s) ≡ 13
       → Within tokens 1 s → n ≡ suc below → s₀ ≡ opened s → Part below 1 type s₀ t s₁ t₁ → s₂ ≡ taken_kind tokens left_brace s₁
       → Part below 0 expressions s₂ t₁ s₃ t₂ → s₄ ≡ taken_kind tokens right_brace s₃
       → Under expression n below (gives_row aggregate_row) 4 [] s t s₄ t₂
@@ -421,6 +464,14 @@ module _ (source tokens : List ℕ) (good : Tokens tokens) (e : Names) where
       let a₀ = expression_begun 13 expression_aggregate expression_aggregate_begins begins within level refl to₀ in
       let a₂ = took_mark source tokens good e left_brace (went productions v tokens e fixed a₀ d₁) refl to₂ in
       took_mark source tokens good e right_brace (went productions v tokens e fixed a₂ d₃) refl to₄
+
+  -- .. or either of them
+  pub elements : {n below a before after kind : ℕ} {s s₀ s₁ s₂ s₃ s₄ : Step} {t t₁ t₂ : List ℕ} → Elements a before after kind
+      → kind_alternative expression (next_kind tokens s) ≡ a → Within tokens 1 s → n ≡ suc below → s₀ ≡ opened s
+      → Part below 1 type s₀ t s₁ t₁ → s₂ ≡ taken_kind tokens before s₁ → Part below 0 expressions s₂ t₁ s₃ t₂
+      → s₄ ≡ taken_kind tokens after s₃ → Under expression n below (gives_row kind) 4 [] s t s₄ t₂
+  elements slice_elements begins = slice begins
+  elements aggregate_elements begins = aggregate begins
 
   -- whether the next token is a star
   star-met : (b : Bool) (s : Step) → eqb (next_kind tokens s) star ≡ b → (j k : ℕ) → s ≡ Read j k → met v e j b a_star ≡ true
@@ -471,6 +522,17 @@ module _ (source tokens : List ℕ) (good : Tokens tokens) (e : Names) where
       cast_takes j (ap (λ (n : ℕ). eqb n star) (reached source tokens good e s₀ j k is) ∙ not)) refl in
       let a₁ = went productions v tokens e fixed (held productions v tokens e fixed a₀ (star-met false s₀ not)) d₁ in
       went productions v tokens e fixed a₁ d₂
+
+  -- .. and where its type or its expression is refused
+  pub cast_refused : {n below number place : ℕ} {s s₀ s₁ : Step} {t t₁ t₂ : List ℕ}
+      → kind_alternative expression (next_kind tokens s) ≡ 15 → Within tokens 1 s → n ≡ suc below → s₀ ≡ opened s
+      → Part below 1 type s₀ t s₁ t₁ → Part below 1 expression s₁ t₁ (Refused number place) t₂
+      → Under expression n below (gives_row cast_row) 3 [] s t (Refused number place) t₂
+  cast_refused {n} {below} {number} {place} {s} {s₀} {t = t} {t₂ = t₂} begins within level to₀ d₁ d₂ = by (eqb (next_kind tokens s₀) star) refl
+    where
+      by : (b : Bool) → b ≡ eqb (next_kind tokens s₀) star → Under expression n below (gives_row cast_row) 3 [] s t (Refused number place) t₂
+      by true is = pointer_cast begins within level to₀ is refl d₁ d₂ (refused_before refl)
+      by false is = plain_cast begins within level to₀ is refl d₁ d₂
 
   -- as many expressions as there are
   pub expressions_go : {n : ℕ} {s s' s'' : Step} {t t' t'' : List ℕ}

@@ -29,8 +29,8 @@ use Rattle.grammar.proofs.Laws.Alternatives17.{body_some, body_none, interface_o
 use Rattle.grammar.proofs.Laws.Alternatives17.{interface_rest_none}
 use Rattle.parser.specs.internal.Readings.{Reads}
 use Rattle.parser.specs.internal.Steps.{Tokens, Within, next_kind, refused_at, taken_kind, opened}
-use Rattle.parser.specs.declared.Step.{Step}
-use Rattle.parser.specs.declared.Step.TheVariants.{Read}
+use Rattle.parser.specs.internal.Steps.{Step}
+use Rattle.parser.specs.internal.Steps.{Read}
 use Rattle.parser.proofs.Laws.Gives.{barred_part, Takes, takes, vain}
 use Rattle.parser.proofs.Laws.After.{After, went, spoken, done, list_more, list_done}
 use Rattle.parser.proofs.Laws.Views.{class_low, names_fixed}

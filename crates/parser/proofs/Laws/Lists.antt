@@ -27,8 +27,8 @@ use Rattle.grammar.proofs.Laws.Alternatives17.{type_arguments_none, struct_param
 use Rattle.grammar.proofs.Laws.Views.{classes}
 use Rattle.parser.specs.internal.Readings.{Gives, Reads, read, refused6, refused7, refused_before}
 use Rattle.parser.specs.internal.Steps.{Tokens, Within, next_kind, asked_at, AnswersKinds, refused_at, taken_kind, taken_word, opened}
-use Rattle.parser.specs.declared.Step.{Step}
-use Rattle.parser.specs.declared.Step.TheVariants.{Read, Refused}
+use Rattle.parser.specs.internal.Steps.{Step}
+use Rattle.parser.specs.internal.Steps.{Read, Refused}
 use Rattle.parser.proofs.Laws.After.{After, start, went, looked, held, wider, done, after_within}
 use Rattle.parser.proofs.Laws.Gives.{takes}
 use Rattle.parser.proofs.Laws.Views.{class_low, class-kind, names_fixed}
@@ -61,7 +61,7 @@ bracket_asked keywords source tokens e (Read i r) opens = by (eqb (kind_at token
 bracket_asked keywords source tokens e (Refused number place) opens =
     let z : ◌≡◌ {A = ℕ} 0 1 = cc in absurd (omega arith)
 
-list_bracket : (keywords : Bool) (tokens : List ℕ) (s : Step) → AnswersKinds (query (opens_of keywords)) tokens s true
+pub list_bracket : (keywords : Bool) (tokens : List ℕ) (s : Step) → AnswersKinds (query (opens_of keywords)) tokens s true
     → next_kind tokens s ≡ left_bracket
 list_bracket keywords tokens s opens = bracket_asked keywords [] tokens [] s (sym (opens [] []))
 

@@ -11,8 +11,8 @@ use Rattle.grammar.specs.Grammars.{Symbol, Production, Names, View}
 use Rattle.grammar.specs.internal.Alternatives.{kind_alternative}
 use Rattle.parser.specs.internal.Readings.{Reads, read, refused6, refused7}
 use Rattle.parser.specs.internal.Steps.{next_kind, begins_part, taken_by, word_kinds, taken_word}
-use Rattle.parser.specs.declared.Step.{Step}
-use Rattle.parser.specs.declared.Step.TheVariants.{Read, Refused}
+use Rattle.parser.specs.internal.Steps.{Step}
+use Rattle.parser.specs.internal.Steps.{Read, Refused}
 use Rattle.parser.specs.internal.Readings as readings
 use Rattle.parser.proofs.Laws.Kinds.{word_kind, word-inside}
 use Rattle.parser.proofs.Laws.Readers.{begins_some}

@@ -1,8 +1,9 @@
 -- The productions of the arms of a match and of their payloads, read step by step. Assumes nothing.
 use Prim.Native.Nat.{ℕ, zero, suc, ◌+◌, ◌<◌, ◌≤◌}
 use mathlib.Core.Path.{◌≡◌, refl, ap, ◌∙◌}
-use mathlib.Core.Bool.{true, false}
+use mathlib.Core.Bool.{true, false, false≢true}
 use mathlib.Core.List.{List, [], ◌∷◌}
+use native.Mathlib.Nat.{pos_of_ne-zero}
 use native.Mathlib.Omega.{arith}
 use Rattle.lexer.specs.Tests.{and, or, between, among}
 use Rattle.lexer.specs.internal.Kinds.{ident, boolean, int, arrow}
@@ -22,9 +23,10 @@ use Rattle.grammar.proofs.Laws.Checks.{below, implies}
 use Rattle.grammar.proofs.Laws.Alternatives17.{arms_more, arms_done, arm_one, payload_one, payloads3_more, payloads3_done, payloads2_more}
 use Rattle.grammar.proofs.Laws.Alternatives17.{payloads2_done, payloads1_more, payloads1_done}
 use Rattle.parser.specs.internal.Readings.{Reads}
-use Rattle.parser.specs.internal.Steps.{Tokens, Within, next_kind, refused_at, taken_kind, opened, closed}
-use Rattle.parser.specs.declared.Step.{Step}
-use Rattle.parser.specs.declared.Step.TheVariants.{Read}
+use Rattle.parser.specs.internal.Steps.{Tokens, Within, next_kind, refused_at, taken_kind, opened, closed, word_kinds}
+use Rattle.parser.specs.internal.Steps.{Step}
+use Rattle.parser.specs.internal.Steps.{Read}
+use Rattle.parser.proofs.Laws.Kinds.{word_kind}
 use Rattle.parser.proofs.Laws.After.{After, went, wider, done, list_more, list_done}
 use Rattle.parser.proofs.Laws.Views.{class_low, names_fixed}
 use Rattle.parser.proofs.Laws.Readers.{opens_with, begun_by, closed_by, rowed, row-deep, took_mark, looked_by, reached}
@@ -35,6 +37,15 @@ arm_kinds = ident ∷ boolean ∷ []
 
 abbrev pub payload_kinds : List ℕ
 payload_kinds = ident ∷ int ∷ []
+
+-- .. and such a token has a kind
+pub arm_kind : {k : ℕ} → among arm_kinds k ≡ true → 0 < k
+unfolding word_kinds
+arm_kind {k} = word_kind false k
+
+pub payload_kind : {k : ℕ} → among payload_kinds k ≡ true → 0 < k
+unfolding or among
+payload_kind {k} is = pos_of_ne-zero (λ (z : k ≡ 0). false≢true (rw z at is))
 
 arm_opens : opens_with (among arm_kinds) declared_word ≡ true
 unfolding opens_with below implies and or among

@@ -1,10 +1,13 @@
 -- Which tokens begin the alternatives of types, expressions, statements and declarations that begin with a token: one computed test
--- for each. Assumes nothing.
+-- for each; and the number of the alternative whose form the code knows. Assumes nothing.
 use Prim.Native.Nat.{ℕ}
-use mathlib.Core.Path.{◌≡◌, refl}
+use mathlib.Core.Path.{◌≡◌, refl, ap, sym, ◌∙◌}
 use mathlib.Core.Bool.{true}
 use mathlib.Core.List.{List, [], ◌∷◌}
-use lib.Dec.{eqb}
+use native.Mathlib.Omega.{arith}
+use lib.Dec.{eqb, ltb}
+use borrow.Author.Tests.{ltb-true}
+use Rattle.std.specs.Prelude.{Option, Some, None, is_some}
 use Rattle.lexer.specs.Tests.{and, or, among}
 use Rattle.lexer.specs.internal.Kinds.{keyword, sizeof, dollar, ampersand, at, colon, equal, semicolon, tilde, left_paren, left_bracket}
 use Rattle.lexer.specs.internal.Kinds.{bang, caret, backslash, question, dot, hash, star, question_question}
@@ -153,3 +156,21 @@ declaration_foreign_begins = begins_same declaration 2 (ampersand ∷ []) refl
 pub declaration_definition_begins : Begins declaration 4 (colon ∷ [])
 unfolding opens_with below implies and or among kind_number
 declaration_definition_begins = begins_same declaration 4 (colon ∷ []) refl
+
+-- The form that the code knows of the next token, and the number of the alternative that begins there. A table of forms gives a number as
+-- `number` says it, and `begins` says that a form has one above 0.
+module _ {F : Type 0} (number : Option F → ℕ) (x : ℕ) {kind next : ℕ} {known : Option F} where
+  pub form_number : {form it : F} → kind ≡ next → number known ≡ kind_alternative x kind → known ≡ Some form → form ≡ it
+      → kind_alternative x next ≡ number (Some it)
+  form_number here made some is =
+      ap (kind_alternative x) (sym here) ∙ sym made ∙ ap number some ∙ ap (λ (f : F). number (Some f)) is
+
+  pub none_number : kind ≡ next → number known ≡ kind_alternative x kind → known ≡ None → kind_alternative x next ≡ number None
+  none_number here made none = ap (kind_alternative x) (sym here) ∙ sym made ∙ ap number none
+
+  pub some_number : {form : F} → ((o : Option F) → is_some o ≡ ltb 0 (number o)) → kind ≡ next → number known ≡ kind_alternative x kind
+      → known ≡ Some form → kind_alternative x next ≡ 0 → ⊥
+  some_number {form} begins here made some zero =
+      let above = ltb-true 0 (number (Some form)) (sym (begins (Some form))) in
+      let same = form_number here made some refl in
+      omega (arith, above, same, zero)

@@ -1,14 +1,12 @@
--- The operators of expressions, one by one, and what is left when all other alternatives are ruled out. Assumes nothing.
-use Prim.Native.Nat.{ℕ, ◌<◌, ◌≤◌}
-use mathlib.Core.Path.{◌≡◌, refl}
+-- The operators of expressions, one by one. Assumes nothing.
+use Prim.Native.Nat.{ℕ, ◌<◌}
+use mathlib.Core.Path.{◌≡◌, refl, ap, sym}
 use mathlib.Core.Bool.{Bool, true, false}
-use native.Mathlib.Nat.{pos_of_ne-zero}
 use native.Mathlib.Omega.{arith}
 use lib.Dec.{eqb}
 use borrow.Author.Tests.{eqb-true}
 use Rattle.tree.specs.internal.RowKinds.{binary_row, not_row, return_row, complement_row, conditional_row, member_row}
 use Rattle.parser.specs.internal.Operators.{operand_count, operation_row}
-use Rattle.parser.proofs.Laws.Readers.{beyond}
 
 -- an operator by the number of its alternative, with its operands and its row
 pub data Operator : ℕ → ℕ → ℕ → Type 0 where
@@ -51,19 +49,13 @@ operator_of a some = binary_or (eqb a 3) refl
     binary_or true h = rw (eqb-true a 3 h) binary
     binary_or false h = not_or h (eqb a 4) refl
 
--- what has no operands is not an operator
-no_operator : (a n : ℕ) → operand_count a ≡ 0 → 0 < operand_count n → a ≡ n → ⊥
-no_operator a n none some is = let same = rw is at none in absurd (omega (arith, same, some))
-
--- the last alternative is a match
-pub match_left : (a : ℕ) → a ≤ 16 → operand_count a ≡ 0 → (a ≡ 0 → ⊥) → (a ≡ 1 → ⊥) → (a ≡ 2 → ⊥) → (a ≡ 7 → ⊥) → (a ≡ 8 → ⊥)
-    → (a ≡ 10 → ⊥) → (a ≡ 11 → ⊥) → (a ≡ 12 → ⊥) → (a ≡ 13 → ⊥) → (a ≡ 15 → ⊥) → a ≡ 16
-unfolding operand_count
-match_left a few none n₀ n₁ n₂ n₇ n₈ n₁₀ n₁₁ n₁₂ n₁₃ n₁₅ =
-    let three = beyond (beyond (pos_of_ne-zero n₀) n₁) n₂ in
-    let five = beyond (beyond three (no_operator a 3 none (omega arith))) (no_operator a 4 none (omega arith)) in
-    let seven = beyond (beyond five (no_operator a 5 none (omega arith))) (no_operator a 6 none (omega arith)) in
-    let ten = beyond (beyond (beyond seven n₇) n₈) (no_operator a 9 none (omega arith)) in
-    let fourteen = beyond (beyond (beyond (beyond ten n₁₀) n₁₁) n₁₂) n₁₃ in
-    let sixteen = beyond (beyond fourteen (no_operator a 14 none (omega arith))) n₁₅ in
-    omega (arith, few, sixteen)
+-- what is asked of an operator where its alternative begins: it has operands, and so many, and this row
+pub operator_asks : {a count row form : ℕ} → Operator a count row → form ≡ a
+    → (0 < count) × ((count ≡ operand_count form) × (row ≡ operation_row form))
+unfolding operand_count operation_row
+operator_asks binary is = (omega arith, (ap operand_count (sym is), ap operation_row (sym is)))
+operator_asks negation is = (omega arith, (ap operand_count (sym is), ap operation_row (sym is)))
+operator_asks return is = (omega arith, (ap operand_count (sym is), ap operation_row (sym is)))
+operator_asks complement is = (omega arith, (ap operand_count (sym is), ap operation_row (sym is)))
+operator_asks conditional is = (omega arith, (ap operand_count (sym is), ap operation_row (sym is)))
+operator_asks member is = (omega arith, (ap operand_count (sym is), ap operation_row (sym is)))

@@ -18,7 +18,7 @@ use Rattle.grammar.specs.Languages.{language17}
 use Rattle.grammar.specs.Sources.{view_of}
 use Rattle.grammar.specs.internal.Alternatives.{kind_of_class}
 use Rattle.parser.specs.internal.Steps.{Tokens, Within, inside, elsewhere, next_kind, taken_if, opened}
-use Rattle.parser.specs.declared.Step.{Step}
+use Rattle.parser.specs.internal.Steps.{Step}
 use Rattle.parser.proofs.Laws.After.{After, wider}
 use Rattle.parser.proofs.Laws.Steps.{if_taken, if_kept, agrees_self}
 use Rattle.parser.proofs.Laws.Views.{kind-inside, names_fixed}

@@ -22,8 +22,8 @@ use Rattle.grammar.proofs.Laws.Alternatives17.{parameters_more, parameters_done,
 use Rattle.grammar.proofs.Laws.Alternatives17.{field_name_some, field_name_none}
 use Rattle.parser.specs.internal.Readings.{Reads}
 use Rattle.parser.specs.internal.Steps.{Tokens, Within, next_kind, begins_part, refused_at, taken_kind, taken_if, row_left}
-use Rattle.parser.specs.declared.Step.{Step}
-use Rattle.parser.specs.declared.Step.TheVariants.{Read}
+use Rattle.parser.specs.internal.Steps.{Step}
+use Rattle.parser.specs.internal.Steps.{Read}
 use Rattle.parser.proofs.Laws.After.{After, begun_part, went, held, done, list_more, list_done}
 use Rattle.parser.proofs.Laws.Views.{class_low, names_fixed}
 use Rattle.parser.proofs.Laws.Readers.{name-marks, begins_some, rowed, reached, row-deep, took_name, looked_by, begins_there}

@@ -23,8 +23,8 @@ use Rattle.grammar.proofs.Laws.Views.{classes}
 use Rattle.grammar.proofs.Laws.Alternatives17.{program_one}
 use Rattle.parser.specs.internal.Readings.{Reads}
 use Rattle.parser.specs.internal.Steps.{Tokens, Within, inside, Small, Spans, next_kind, refused_at, row_left, closed}
-use Rattle.parser.specs.declared.Step.{Step}
-use Rattle.parser.specs.declared.Step.TheVariants.{Read}
+use Rattle.parser.specs.internal.Steps.{Step}
+use Rattle.parser.specs.internal.Steps.{Read}
 use Rattle.parser.proofs.Laws.Gives.{gives_deep}
 use Rattle.parser.proofs.Laws.After.{After, start, begun_part, went, held, closes, done, deep-at, unheld, within_wider}
 use Rattle.parser.proofs.Laws.Views.{class_shows, class_low, names_fixed}

@@ -26,8 +26,8 @@ use Rattle.grammar.specs.Languages.{language17, class_of, view}
 use Rattle.grammar.specs.Sources.{view_of}
 use Rattle.grammar.proofs.Laws.Patterns.{fits_at, fits-spelled, run_at, fits_run}
 use Rattle.parser.specs.internal.Steps.{kinds_at, asked_at, AnswersTexts, AnswersKinds, word_kinds, WordsEnd}
-use Rattle.parser.specs.declared.Step.{Step}
-use Rattle.parser.specs.declared.Step.TheVariants.{Read, Refused}
+use Rattle.parser.specs.internal.Steps.{Step}
+use Rattle.parser.specs.internal.Steps.{Read, Refused}
 use Rattle.parser.proofs.Laws.Views.{item_here, kind_here}
 use Rattle.parser.proofs.Laws.Kinds.{among_single, among_two, within, among_same, singles, kinds_fit, no_word_last}
 use Rattle.parser.proofs.Laws.Steps.{asked_here}

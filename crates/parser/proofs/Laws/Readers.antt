@@ -31,8 +31,8 @@ use Rattle.grammar.proofs.Laws.Groups17.{kind_number, kind_same}
 use Rattle.parser.specs.internal.Readings.{Gives, Reads}
 use Rattle.parser.specs.internal.Steps.{Tokens, Within, inside, elsewhere, Small, Spans, next_kind, begins_part, refused_at, taken_by}
 use Rattle.parser.specs.internal.Steps.{taken_kind, word_kinds, taken_word, opened, closed}
-use Rattle.parser.specs.declared.Step.{Step}
-use Rattle.parser.specs.declared.Step.TheVariants.{Read, Refused}
+use Rattle.parser.specs.internal.Steps.{Step}
+use Rattle.parser.specs.internal.Steps.{Read, Refused}
 use Rattle.parser.proofs.Laws.Gives.{gives_deep, takes}
 use Rattle.parser.proofs.Laws.After.{After, begun, took, went, looked, spoken, wider, closes, after-spans, after_within, stuck_at}
 use Rattle.parser.proofs.Laws.After.{deep-at, within_wider, within_small, start, done}

@@ -1,11 +1,13 @@
 -- The productions of blocks and statements, read step by step. Assumes nothing.
 use Prim.Native.Nat.{ℕ, zero, suc, ◌<◌, ◌≤◌}
 use mathlib.Core.Path.{◌≡◌, refl, ap, ◌∙◌}
-use mathlib.Core.Bool.{Bool, true, false}
+use mathlib.Core.Bool.{Bool, true, false, not}
 use mathlib.Core.List.{List, [], ◌∷◌}
 use native.Mathlib.Omega.{arith}
+use denote.Enum.Bare.{sameb, differs_true}
 use lib.Dec.{eqb, leb, ltb}
 use borrow.Author.Tests.{eqb-true}
+use Rattle.std.specs.Prelude.{Some}
 use Rattle.lexer.specs.Tests.{and, between}
 use Rattle.lexer.specs.internal.Kinds.{ident, dot, tilde, left_brace, right_brace}
 use Rattle.lexer.specs.Table.{token_room}
@@ -15,6 +17,10 @@ use Rattle.tree.specs.internal.RowKinds.{block_row, let_row, set_name_row, set_e
 use Rattle.grammar.specs.Grammars.{query, Symbol, token, derived, unless, Makes, gives_row, row_of, gives_kind, no_row, Names, View, asked, met}
 use Rattle.grammar.specs.Rows.{levels}
 use Rattle.grammar.specs.executable.Reading.{selected, choice}
+use Rattle.grammar.specs.contracts.forms.StatementForm.{the_type}
+use Rattle.grammar.specs.declared.forms.StatementForm.{StatementForm}
+use Rattle.grammar.specs.declared.forms.StatementForm.TheVariants.{Expression, Let, Assignment, Defer, Tilde}
+use Rattle.grammar.specs.internal.Forms.{statement_form_number}
 use Rattle.grammar.specs.internal.Nonterminals.{block, statements, statement, binding, assignment, tilde_statement, loop_or_complement}
 use Rattle.grammar.specs.internal.Nonterminals.{expression, type}
 use Rattle.grammar.specs.internal.Classes.{name}
@@ -34,8 +40,8 @@ use Rattle.grammar.proofs.Laws.Alternatives17.{tilde_statement_none, loop_or_com
 use Rattle.grammar.proofs.Laws.Alternatives17 as alternatives
 use Rattle.parser.specs.internal.Readings.{Reads}
 use Rattle.parser.specs.internal.Steps.{Tokens, Within, next_kind, begins_part, kinds_at, asked_at, refused_at, taken_kind, taken_if, opened}
-use Rattle.parser.specs.declared.Step.{Step}
-use Rattle.parser.specs.declared.Step.TheVariants.{Read}
+use Rattle.parser.specs.internal.Steps.{Step}
+use Rattle.parser.specs.internal.Steps.{Read}
 use Rattle.parser.proofs.Laws.After.{After, start, went, looked, spoken, held, done, list_more, list_done}
 use Rattle.parser.proofs.Laws.Views.{class_low, class-kind, names_fixed}
 use Rattle.parser.proofs.Laws.Gives.{barred_token, barred_part, barred_condition, Takes, takes, vain}
@@ -68,6 +74,14 @@ statement_numbers = refl
 
 pub statement_few : (k : ℕ) → kind_alternative statement k ≤ 5
 statement_few = few_numbers statement 5 statement_numbers
+
+-- a form that is no expression has a number above 1
+pub more_than_expression : (form : StatementForm) → not (sameb the_type form Expression) ≡ true → 1 < statement_form_number (Some form)
+more_than_expression Expression other = absurd (differs_true the_type Expression Expression other refl)
+more_than_expression Let _ = omega arith
+more_than_expression Assignment _ = omega arith
+more_than_expression Defer _ = omega arith
+more_than_expression Tilde _ = omega arith
 
 module _ (source tokens : List ℕ) (good : Tokens tokens) (e : Names) where
   abbrev v : View

@@ -11,8 +11,8 @@ use Rattle.grammar.specs.Languages.{language17}
 use Rattle.grammar.specs.Sources.{view_of}
 use Rattle.parser.specs.internal.Steps.{Small, Spans, small, over, spans, from_refused, to_refused, opened, Within, inside}
 use Rattle.parser.specs.internal.Steps.{elsewhere, next_kind, asked_at, taken_by, taken_kind, taken_if, row_left}
-use Rattle.parser.specs.declared.Step.{Step}
-use Rattle.parser.specs.declared.Step.TheVariants.{Read, Refused}
+use Rattle.parser.specs.internal.Steps.{Step}
+use Rattle.parser.specs.internal.Steps.{Read, Refused}
 
 pub small_read : (s : Step) (at row : ℕ) → s ≡ Read at row → Small s → (at + 1 < 2 ^ 32) × (row + 1 < 2 ^ 32)
 small_read (Read i r) at row e (small a b) =

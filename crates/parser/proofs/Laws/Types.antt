@@ -32,8 +32,8 @@ use Rattle.grammar.proofs.Laws.Alternatives17.{parenthesized_instance, parenthes
 use Rattle.parser.specs.internal.Readings.{Reads}
 use Rattle.parser.specs.internal.Steps.{Tokens, Within, next_kind, begins_part, refused_at, taken_kind, taken_word, opened, closed}
 use Rattle.parser.specs.internal.Operators.{TypeOperator, pointer, optional, slice, result}
-use Rattle.parser.specs.declared.Step.{Step}
-use Rattle.parser.specs.declared.Step.TheVariants.{Read}
+use Rattle.parser.specs.internal.Steps.{Step}
+use Rattle.parser.specs.internal.Steps.{Read}
 use Rattle.parser.proofs.Laws.After.{After, went, spoken, done, list_more, list_done}
 use Rattle.parser.proofs.Laws.Views.{class_low, names_fixed}
 use Rattle.parser.proofs.Laws.Gives.{barred_token, Takes, takes, vain}
@@ -55,6 +55,13 @@ type_numbers = refl
 
 pub type_few : (k : ℕ) → kind_alternative type k ≤ 7
 type_few = few_numbers type 7 type_numbers
+
+-- what stands for an operator is an alternative
+pub operator_some : {a count kind : ℕ} → TypeOperator a count kind → 0 < a
+operator_some pointer = omega arith
+operator_some optional = omega arith
+operator_some slice = omega arith
+operator_some result = omega arith
 
 module _ (source tokens : List ℕ) (good : Tokens tokens) (e : Names) where
   abbrev v : View

@@ -2,21 +2,24 @@
 -- row are as they were. Assumes nothing.
 use Prim.Native.Nat.{ℕ, suc, ◌+◌, ◌*◌, ◌<◌, ◌≤◌}
 use mathlib.Core.Path.{◌≡◌, refl, sym, ◌∙◌, ap}
-use mathlib.Core.Bool.{Bool, true, false}
+use mathlib.Core.Bool.{Bool, true, false, false≢true}
 use mathlib.Core.List.{List, [], ◌∷◌, ◌++◌}
 use native.Mathlib.Omega.{arith}
 use lib.Dec.{ltb}
 use lib.ListN.{length, take, drop, set, length-append, length-drop, length-set, length-replicate, take-append-drop}
 use lib.Seq.{sets, set-append_left, length-take-le, drop_at}
 use borrow.Author.Tests.{ltb-true}
+use Rattle.std.specs.Prelude.{Result, Ok, Err, is_err}
 use Rattle.lexer.specs.Tests.{pick}
+use Rattle.lexer.specs.internal.RefusalNumbers.{reason_number}
+use Rattle.lexer.specs.declared.refusals.Refusal.{Refusal}
 use Rattle.tree.specs.TreeTable.{Row, tree_width, tree_room, tree_row, cleared}
 use Rattle.tree.specs.internal.Trees.{put_row, put}
 use Rattle.tree.proofs.Laws.Trees.{length-put_row, length-put}
 use Rattle.grammar.specs.Grammars.{Symbol, Production, Names, View}
 use Rattle.parser.specs.internal.Readings.{Reads, read, refused6, refused7, refused_before}
-use Rattle.parser.specs.declared.Step.{Step}
-use Rattle.parser.specs.declared.Step.TheVariants.{Read, Refused}
+use Rattle.parser.specs.internal.Steps.{Step, Read, Refused, step_of}
+use Rattle.parser.specs.declared.Place.{Place}
 
 -- numbers written inside the front of a table leave what follows it
 sets_front : (front rest : List ℕ) (i : ℕ) (vs : List ℕ) → i + length vs ≤ length front → sets (front ++ rest) i vs ≡ sets front i vs ++ rest
@@ -128,3 +131,19 @@ module _ {g : List Production} {v : View} {count : ℕ} {e : Names} {n least mor
           rw h at (refused_again {final = final} reads (ap length zero-rows ∙ length-cleared table) number place h),
           λ (number' place' : ℕ) (other : Refused number place ≡ Refused number' place'). zero-rows,
         )
+
+-- .. by what the reader answers
+module _ {g : List Production} {v : View} {count : ℕ} {e : Names} {n least more : ℕ} {ss : List Symbol} (table : List ℕ) (size : ℕ)
+    (is-end : size ≡ end table) {from : Step} {after : List ℕ} where
+  pub kept_whole : (r : Result Place Refusal) → Reads g v count e n least more ss from (take size table) (step_of r) after → is_err r ≡ false
+      → (Reads g v count e n least more ss from table (step_of r) (after ++ drop size table))
+      × ((number place : ℕ) → step_of r ≡ Refused number place → after ++ drop size table ≡ cleared table)
+  kept_whole (Ok p) reads is = read_whole table size is-end reads p.token p.row refl
+  kept_whole (Err d) reads is = absurd (false≢true (sym is))
+
+  pub cleared_whole : (r : Result Place Refusal) → Reads g v count e n least more ss from (take size table) (step_of r) after → is_err r ≡ true
+      → (final : List ℕ) → final ≡ cleared (after ++ drop size table)
+      → (Reads g v count e n least more ss from table (step_of r) final)
+      × ((number place : ℕ) → step_of r ≡ Refused number place → final ≡ cleared table)
+  cleared_whole (Ok p) reads is final there = absurd (false≢true is)
+  cleared_whole (Err d) reads is final there = refused_whole table size is-end reads (reason_number d.reason) d.place refl final there

@@ -17,7 +17,7 @@ use Rattle.grammar.specs.Sources.{view_of}
 use Rattle.grammar.specs.internal.Alternatives.{kind_of_class}
 use Rattle.grammar.proofs.Laws.Alternatives17.{more_names_more, more_names_done, more_words_more, more_words_done}
 use Rattle.parser.specs.internal.Steps.{Tokens, next_kind, word_kinds, taken_word}
-use Rattle.parser.specs.declared.Step.{Step}
+use Rattle.parser.specs.internal.Steps.{Step}
 use Rattle.parser.proofs.Laws.After.{After, wider}
 use Rattle.parser.proofs.Laws.Views.{class_low, names_fixed}
 use Rattle.parser.proofs.Laws.Readers.{looked_by, took_word}

@@ -15,8 +15,8 @@ use Rattle.grammar.specs.internal.Nonterminals.{program}
 use Rattle.grammar.specs.Nurl.{productions}
 use Rattle.grammar.specs.Languages.{language17}
 use Rattle.grammar.specs.Sources.{view_of}
-use Rattle.parser.specs.declared.Step.{Step}
-use Rattle.parser.specs.declared.Step.TheVariants.{Read, Refused}
+use Rattle.parser.specs.internal.Steps.{Step}
+use Rattle.parser.specs.internal.Steps.{Read, Refused}
 
 -- from some fuel on, the reading of the symbols ss from token i, under the names e and with n levels left, gives this outcome
 pub record Gives (g : List Production) (v : View) (e : Names) (n : ℕ) (ss : List Symbol) (i : ℕ) (o : Outcome) : Type 0 where

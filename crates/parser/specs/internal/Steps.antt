@@ -1,5 +1,5 @@
 -- How far a reading has come, and the small steps that a reading is made of. A refusal is passed on by every step.
-use Rattle.std.specs.Prelude.{ℕ, ◌+◌, ◌-◌, ◌*◌, ◌^◌, ◌<◌, ◌≤◌, ◌≡◌, Bool, true, false, List, [], ◌∷◌, eqb, ltb, drop}
+use Rattle.std.specs.Prelude.{ℕ, ◌+◌, ◌-◌, ◌*◌, ◌^◌, ◌<◌, ◌≤◌, ◌≡◌, Bool, true, false, List, [], ◌∷◌, eqb, ltb, drop, Result, Ok, Err}
 use Rattle.lexer.specs.Refusals.{refusal_number}
 use Rattle.lexer.specs.Tests.{and, between, pick, among}
 use Rattle.lexer.specs.internal.Kinds.{ident, keyword, boolean, first_kind, last_kind}
@@ -14,8 +14,23 @@ use Rattle.grammar.specs.Nurl.{plain_name}
 use Rattle.grammar.specs.Languages.{language17}
 use Rattle.grammar.specs.Sources.{view_of}
 use Rattle.grammar.specs.internal.Alternatives.{kind_alternative}
-use Rattle.parser.specs.declared.Step.{Step}
-use Rattle.parser.specs.declared.Step.TheVariants.{Read, Refused}
+use Rattle.lexer.specs.internal.RefusalNumbers.{reason_number}
+use Rattle.lexer.specs.declared.refusals.Refusal.{Refusal}
+use Rattle.parser.specs.declared.Place.{Place}
+
+-- how far a reading has come: the next token and the next row, or a refusal's number and place
+pub data Step : Type 0 where
+  Read : (token row : ℕ) → Step
+  Refused : (number place : ℕ) → Step
+
+-- the step at a place ..
+abbrev pub step_at : Place → Step
+step_at p = Read p.token p.row
+
+-- .. and the step that a reader answers
+abbrev pub step_of : Result Place Refusal → Step
+step_of (Ok p) = step_at p
+step_of (Err r) = Refused (reason_number r.reason) r.place
 
 -- what every reader asks of a token table: no more tokens than a source can have, each of a kind of document 01
 pub record Tokens (tokens : List ℕ) : Type 0 where
@@ -38,6 +53,10 @@ pub data Spans : Step → Step → Type 0 where
   spans : {at row next last : ℕ} → at ≤ next → row < last → Spans (Read at row) (Read next last)
   from_refused : {number place : ℕ} {to : Step} → Spans (Refused number place) to
   to_refused : {at row number place : ℕ} → Spans (Read at row) (Refused number place)
+
+-- what closing a row over all that lies between two steps asks
+abbrev pub Closable : Step → Step → Type 0
+Closable from to = (Small from) × ((Small to) × (Spans from to))
 
 -- the kind of the next token, 0 at the end and after a refusal
 unfoldable pub next_kind : List ℕ → Step → ℕ

@@ -1,18 +1,27 @@
--- What a call that reads came to, by its result, and how far reading has come after it. Assumes nothing.
-use Prim.Native.Nat.{ℕ, zero, suc, ◌+◌, ◌-◌, ◌<◌, ◌≤◌}
-use mathlib.Core.Path.{◌≡◌, refl, sym, subst}
-use mathlib.Core.Bool.{Bool, true, false}
-use native.Mathlib.Omega.{arith}
+-- What a call that reads came to, by its result, how far reading has come after it, and what the input has given then. Assumes nothing.
+use Rattle.std.proofs.Common.{◌≡◌, ℕ, zero, suc, ◌+◌, ◌-◌, ◌<◌, ◌≤◌, ◌≢◌, Bool, true, false, ℤ, pos, negsuc}
+use Rattle.std.proofs.Common.{Option, Result, Ok, Err, List, ◌++◌, length, take, drop}
+use Rattle.std.proofs.Common.{refl, sym, ap, ◌∙◌, subst, arith, drop_at, length-take-le, le_refl}
 use lib.Dec.{T}
-use lib.IntN.{ℤ, pos, negsuc}
 use lib.Signed.{lt_z}
 use borrow.Author.Tests.{ltb-true}
+use borrow.Rule.Slice.PartMut.{put_mid, post_of}
+use lib.Seq.{take-add, take-append-le}
+use Rattle.std.proofs.KnownBytes.{Consumes-trans, Consumes-kept}
+use Rattle.std.proofs.lemmas.Slice.{take-put_mid_below}
+use Rattle.std.specs.Io.{ReadsAtMost}
+use Rattle.std.specs.Io.KnownBytes.{Consumes, ReadConsumes}
+use Rattle.std.specs.IoError.{error_kind}
+use Rattle.std.specs.declared.io.Error.{Error}
+use Rattle.std.specs.declared.io.ErrorKind.{ErrorKind}
+use Rattle.std.specs.declared.io.ErrorKind.TheVariants as kind
+use Rattle.std.specs.declared.ops.ControlFlow.{ControlFlow}
+use Rattle.std.specs.declared.ops.ControlFlow.TheVariants.{Continue}
 use Rattle.lexer.specs.Tests.{pick}
-use Rattle.replies.specs.internal.Input.{outcome_of, after_call, GotWithin}
-use Rattle.replies.specs.declared.Outcome.{Outcome}
-use Rattle.replies.specs.declared.Outcome.TheVariants.{Got, End, Interrupted, Failed}
-use Rattle.replies.specs.declared.Input.TheVariants.{Script}
-use Rattle.replies.specs.declared.Progress.TheVariants.{More, Done}
+use Rattle.replies.specs.internal.Input.{Outcome, Got, End, Interrupted, Failed, Script, More, Done}
+use Rattle.replies.specs.internal.Input.{outcome_of, after_call, GotWithin, failure_said, outcome_said, progress_said, AfterCall}
+use Rattle.replies.specs.declared.Unreadable.{Unreadable as NoScript}
+use Rattle.replies.specs.declared.script.Reading.{Reading}
 
 -- a negative result is a failure
 pub failed_call : (z : ℤ) (interrupted : Bool) (count : ℕ) → lt_z z (pos 0) ≡ true → pick interrupted Interrupted Failed ≡ outcome_of z interrupted count
@@ -74,3 +83,80 @@ comes_to done retries End count h = cc
 comes_to done zero Interrupted count h = let z : ◌≡◌ {A = ℕ} 0 1 = cc in absurd (omega arith)
 comes_to done (suc retries) Interrupted count h = let z : ◌≡◌ {A = ℕ} 0 1 = cc in absurd (omega arith)
 comes_to done retries Failed count h = let z : ◌≡◌ {A = ℕ} 0 1 = cc in absurd (omega arith)
+
+-- after a call that a signal interrupted, as the code answers
+interrupted_said : (done retries : ℕ) (answer : Result (ControlFlow ℕ Reading) NoScript)
+    → (0 < retries → answer ≡ Ok (Continue (record { done = done; retries = retries - 1 }))) → (retries ≡ 0 → answer ≡ Err (record {}))
+    → progress_said answer ≡ after_call done retries Interrupted
+unfolding after_call
+interrupted_said done zero answer on over = ap progress_said (over refl)
+interrupted_said done (suc retries) answer on over = ap progress_said (on (omega arith)) ∙ tried_again done (suc retries) (λ none. omega arith)
+
+-- after a call that failed
+failure_said_by : (reading : Reading) (why : ErrorKind) (answer : Result (ControlFlow ℕ Reading) NoScript)
+    → (why ≡ kind.Interrupted → 0 < reading.retries → answer ≡ Ok (Continue (record reading { retries = reading.retries - 1 })))
+    → (why ≡ kind.Interrupted → reading.retries ≡ 0 → answer ≡ Err (record {})) → (why ≢ kind.Interrupted → answer ≡ Err (record {}))
+    → progress_said answer ≡ after_call reading.done reading.retries (failure_said why)
+unfolding after_call
+failure_said_by reading kind.Interrupted answer on over failed = interrupted_said reading.done reading.retries answer (on refl) (over refl)
+failure_said_by reading _ answer on over failed = ap progress_said (failed (λ same. let z : ◌≡◌ {A = ℕ} 0 1 = cc in omega arith))
+
+-- what the code answers after a call is how far reading has come
+pub said_by : (reading : Reading) (call : Result ℕ Error) (answer : Result (ControlFlow ℕ Reading) NoScript) → AfterCall reading call answer
+    → progress_said answer ≡ after_call reading.done reading.retries (outcome_said call)
+unfolding after_call
+said_by reading (Ok zero) answer after = ap progress_said after
+said_by reading (Ok (suc count)) answer after = ap progress_said after
+said_by reading (Err error) answer after = failure_said_by reading (error_kind error) answer after.0 after.1 after.2
+
+-- a call got no more bytes than there was room for
+got_by : (room : ℕ) (why : ErrorKind) → GotWithin room (failure_said why)
+got_by room kind.Interrupted count same = let z : ◌≡◌ {A = ℕ} 0 1 = cc in absurd (omega arith)
+got_by room _ count same = let z : ◌≡◌ {A = ℕ} 0 1 = cc in absurd (omega arith)
+
+pub got_within : (call : Result ℕ Error) (part : List ℕ) → ReadsAtMost call part → GotWithin (length part) (outcome_said call)
+got_within (Ok zero) part within count same = let z : ◌≡◌ {A = ℕ} 0 1 = cc in absurd (omega arith)
+got_within (Ok (suc n)) part within count same =
+    let counted : suc n ≡ count = cc in
+    let most = within.0 in
+    (omega arith, omega arith)
+got_within (Err error) part within count same = got_by (length part) (error_kind error) count same
+
+-- where reading goes on after a failure, it has put no bytes
+failed_on : (reading on : Reading) (error : Error) → AfterCall reading (Err error) (Ok (Continue on)) → on.done ≡ reading.done
+failed_on reading on error after = grind (arith, after.0, after.1, after.2)
+
+-- where reading goes on, it has put no more bytes than the call did
+pub puts_no_more : (reading on : Reading) (call : Result ℕ Error) (part : List ℕ) → AfterCall reading call (Ok (Continue on)) → ReadsAtMost call part
+    → on.done ≤ reading.done + length part
+puts_no_more reading on (Ok zero) part after within = cc
+puts_no_more reading on (Ok (suc n)) part after within =
+    let done : on.done ≡ reading.done + suc n = cc in
+    let most = within.0 in
+    omega arith
+puts_no_more reading on (Err error) part after within = let done = failed_on reading on error after in omega arith
+
+-- a front of a buffer that is put past its middle
+take-read : (at k n : ℕ) (buffer part : List ℕ) → at ≤ length buffer → n ≤ length part
+    → take (at + n) (put_mid at k buffer part) ≡ take at buffer ++ take n part
+take-read at k n buffer part inside fits =
+    let after = post_of at k buffer in
+    let rest = ap (take n) (drop_at (take at buffer) (part ++ after) at (length-take-le at buffer inside)) ∙ take-append-le n part after fits in
+    take-add at n (put_mid at k buffer part)
+    ∙ ap (λ (l : List ℕ). l ++ take n (drop at (put_mid at k buffer part))) (take-put_mid_below at k buffer part at (le_refl _) inside)
+    ∙ ap (λ (l : List ℕ). take at buffer ++ l) rest
+
+-- where reading goes on, what is read is what was taken from the input
+pub takes : (reading on : Reading) (call : Result ℕ Error) (start before now : Option (List ℕ)) (k : ℕ) (buffer part : List ℕ)
+    → AfterCall reading call (Ok (Continue on)) → ReadsAtMost call part → ReadConsumes before now call part → reading.done ≤ length buffer
+    → Consumes start before (take reading.done buffer) → Consumes start now (take on.done (put_mid reading.done k buffer part))
+takes reading on (Ok zero) start before now k buffer part after within read inside h = cc
+takes reading on (Ok (suc n)) start before now k buffer part after within read inside h =
+    let done : reading.done + suc n ≡ on.done = cc in
+    let more = sym (take-read reading.done k (suc n) buffer part inside within.0) ∙ ap (λ m. take m (put_mid reading.done k buffer part)) done in
+    subst (Consumes start now) more (Consumes-trans start before now _ _ h read.0)
+takes reading on (Err error) start before now k buffer part after within read inside h =
+    let done = sym (failed_on reading on error after) in
+    let same = sym (take-put_mid_below reading.done k buffer part reading.done (le_refl _) inside)
+    ∙ ap (λ m. take m (put_mid reading.done k buffer part)) done in
+    subst (Consumes start now) same (Consumes-kept start before now _ h read)

@@ -1,22 +1,27 @@
--- The entries of a name list from a place on: the first of them, and the answer by it; that a refusal is number 2, and where its
+-- The entries of a name list: the first of them and the others, and the answer by the first; that a refusal is number 2, and where its
 -- place is. Assumes nothing.
 use Prim.Native.Nat.{ℕ, suc, ◌+◌, ◌<◌, ◌≤◌}
+use mathlib.Core.Logic.{⊎_elim}
 use mathlib.Core.Path.{◌≡◌, refl, sym, ◌∙◌, ap}
 use mathlib.Core.Bool.{Bool, true, false}
 use mathlib.Core.List.{List, [], ◌∷◌}
 use native.Mathlib.Omega.{arith}
 use native.Mathlib.Nat.{add_assoc}
 use native.Mathlib.Numerals.{add-one}
-use lib.Dec.{eqb, ltb}
+use denote.Ref.{Bor}
 use borrow.Author.Tests.{ltb-true, ltb-false}
+use lib.Dec.{eqb, ltb}
 use lib.ListN.{length, take, drop, length-drop}
-use lib.Seq.{drop-drop, take-length, length-take-le}
+use lib.Seq.{drop-drop, take-length}
+use Rattle.std.proofs.lemmas.List.{take_rest}
+use Rattle.std.specs.Slice.{IsGetRangeResult}
+use Rattle.std.specs.Prelude.{Option, Some, None}
 use Rattle.lexer.specs.Tests.{pick}
 use Rattle.lexer.specs.Bytes.{is_in_line, run}
 use Rattle.lexer.specs.Editions.{Edition}
 use Rattle.lexer.proofs.Laws.Runs.{run_pass, run_stop, run_le}
-use Rattle.typenames.specs.NameList.{name_limit, push, split, entries, is_name, first_bad, checked}
-use Rattle.typenames.specs.declared.Checked.TheVariants.{Good, Refused}
+use Rattle.typenames.specs.internal.Entries.{entries_of_rest}
+use Rattle.typenames.specs.NameList.{Good, Refused, name_limit, push, split, entries, is_name, first_bad, checked}
 
 -- what a byte of a line tells
 in_line : (b : ℕ) → eqb b 10 ≡ false → is_in_line b ≡ true
@@ -69,6 +74,21 @@ split-first_by s false e =
 pub split-first : (s : List ℕ) → (ws : List (List ℕ)) × (split s ≡ take (run is_in_line s) s ∷ ws)
 split-first s = split-first_by s (ltb (run is_in_line s) (length s)) refl
 
+-- .. and the others are those of what is left after the byte 10, if it is there
+module _ (s after : List ℕ) (end : ℕ) (line : end ≡ run is_in_line s) (cut : after ≡ drop end s) where
+  pub entries_next : (rest : Option (Bor (List ℕ))) → IsGetRangeResult after 1 (length after) rest → split s ≡ take end s ∷ entries_of_rest rest
+  entries_next None got =
+      let le = run_le is_in_line s in
+      let l = length-drop end s in
+      let none : length after ≡ 0 = ⊎_elim (λ (h : length after < 1). omega arith) (λ (h : length after < length after). omega arith) got.0 in
+      let all : run is_in_line s ≡ length s = omega (arith, ap length cut) in
+      split_last s all ∙ rw (line, all, take-length s)
+  entries_next (Some rest) got =
+      let le = run_le is_in_line s in
+      let l = length-drop end s in
+      let more = split_more s (omega (arith, ap length cut)) in
+      rw (more, got.0.2, take_rest after 1, cut, drop-drop, add-one end, line)
+
 pub entries_some : (list : List ℕ) → 0 < length list → entries list ≡ split list
 unfolding entries
 entries_some [] h = absurd (omega arith)
@@ -79,53 +99,20 @@ unfolding entries
 entries_none [] h = refl
 entries_none (b ∷ s) h = absurd (omega arith)
 
--- the entry at a place is the line there
-module _ (list : List ℕ) (at : ℕ) where
-  abbrev pub line_length : ℕ
-  line_length = run is_in_line (drop at list)
-
-  pub line_inside : at ≤ length list → at + line_length ≤ length list
-  line_inside h =
-      let r = run_le is_in_line (drop at list) in
-      let l = length-drop at list in
-      omega arith
-
-  abbrev pub entry_here : List ℕ
-  entry_here = take line_length (drop at list)
-
-  -- .. and where the line ends the list, it is the only one; where not, the others begin after the byte 10
-  pub entry_last : at ≤ length list → at + line_length ≡ length list → split (drop at list) ≡ entry_here ∷ []
-  entry_last h end =
-      let d = drop at list in
-      let l = length-drop at list in
-      let all : line_length ≡ length d = omega arith in
-      rw (split_last d all, all, take-length d)
-
-  pub entry_more : at + line_length < length list → split (drop at list) ≡ entry_here ∷ split (drop (at + line_length + 1) list)
-  entry_more h =
-      let d = drop at list in
-      let l = length-drop at list in
-      let below : line_length < length d = omega arith in
-      rw (split_more d below, drop-drop, ← add-one line_length, ← add_assoc at line_length 1)
-
--- the answer from a place on, by the entry there
-module _ (e : Edition) (list : List ℕ) (at : ℕ) where
-  pub bad_here : is_name e (entry_here list at) ≡ false
-      → first_bad e at (split (drop at list)) ≡ Refused 2 at
+-- the answer for the entries from a place on, by the first of them
+module _ (e : Edition) (at : ℕ) (left : List (List ℕ)) where
+  pub bad_none : left ≡ [] → first_bad e at left ≡ Good
   unfolding first_bad
-  bad_here n = rw ((split-first (drop at list)).1, n)
+  bad_none none = rw none
 
-  pub good_last : at ≤ length list → at + line_length list at ≡ length list → is_name e (entry_here list at) ≡ true
-      → first_bad e at (split (drop at list)) ≡ Good
-  unfolding first_bad
-  good_last h end n = rw (entry_last list at h end, n)
+  module _ (w : List ℕ) (ws : List (List ℕ)) (first : left ≡ w ∷ ws) where
+    pub bad_here : is_name e w ≡ false → first_bad e at left ≡ Refused 2 at
+    unfolding first_bad
+    bad_here n = rw (first, n)
 
-  pub good_here : at + line_length list at < length list → is_name e (entry_here list at) ≡ true
-      → first_bad e at (split (drop at list)) ≡ first_bad e (at + line_length list at + 1) (split (drop (at + line_length list at + 1) list))
-  unfolding first_bad
-  good_here h n =
-      let l = length-drop at list in
-      rw (entry_more list at h, n, length-take-le (line_length list at) (drop at list) (omega arith))
+    pub bad_later : is_name e w ≡ true → first_bad e at left ≡ first_bad e (at + (length w + 1)) ws
+    unfolding first_bad
+    bad_later n = rw (first, n, add_assoc)
 
 -- a refusal of a list is number 2
 module _ (e : Edition) where
@@ -148,7 +135,7 @@ module _ (e : Edition) where
       cases false h = bad_two 0 (entries list) number place h
 
 -- the bytes of some entries, each with the byte 10 after it
-abbrev extent : List (List ℕ) → ℕ
+abbrev pub extent : List (List ℕ) → ℕ
 extent [] = 0
 extent (w ∷ ws) = length w + 1 + extent ws
 
@@ -165,6 +152,11 @@ extent-split (b ∷ s) = cases (eqb b 10) (extent-split s) (split-first s)
         → extent (pick t ([] ∷ split s) (push b (split s))) ≡ suc (length s) + 1
     cases true below first = omega arith
     cases false below first = let pushed = extent-push_by b _ first.0 (split s) first.1 in omega arith
+
+pub extent-entries : (list : List ℕ) → extent (entries list) ≤ length list + 1
+unfolding entries
+extent-entries [] = omega arith
+extent-entries (b ∷ s) = omega (arith, extent-split (b ∷ s))
 
 -- the place of a refusal is in the list or at its end
 module _ (e : Edition) where

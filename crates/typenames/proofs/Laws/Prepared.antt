@@ -1,13 +1,21 @@
 -- Prepared lists: a word that does not pass is none of the names that are let through, one that passes is asked of all; and where the
 -- slots of all names are set, all are let through. Assumes nothing.
-use Prim.Native.Nat.{ℕ, zero, ◌+◌, ◌<◌, ◌≤◌}
-use mathlib.Core.Path.{◌≡◌, refl, sym, ◌∙◌, ap}
+use Prim.Native.Nat.{ℕ, zero, ◌+◌, ◌-◌, ◌<◌, ◌≤◌}
+use mathlib.Core.Path.{◌≡◌, refl, ◌∙◌, ap}
 use mathlib.Core.Bool.{Bool, true, false}
-use mathlib.Core.List.{List, [], ◌∷◌, ◌++◌}
+use mathlib.Core.List.{List, [], ◌∷◌, ◌++◌, append-nil}
+use mathlib.Core.Logic.{⊎_elim}
 use native.Mathlib.Omega.{arith}
-use native.Mathlib.Numerals.{add-one}
-use lib.ListN.{length, take, drop, get_or, set, length-drop}
-use lib.Seq.{drop-set-add, take-suc, take-suc-set, take_all}
+use denote.Ref.{Bor}
+use borrow.Rule.Slice.PartMut.{put_mid}
+use lib.ListN.{length, take, drop, length-drop}
+use lib.Seq.{drop-length, drop_at, length-take-le}
+use Rattle.std.proofs.lemmas.List.{take_rest}
+use Rattle.std.proofs.Common.{rules}
+use Rattle.std.proofs.lemmas.Slice.{overwrites}
+use Rattle.std.specs.Prelude.{Option, Some, None, unwrap_or}
+use Rattle.std.specs.Slice.{IsGetRangeResult}
+use Rattle.lexer.proofs.Laws.Fronts.{front_none}
 use Rattle.lexer.specs.Tests.{or, pick}
 use Rattle.lexer.specs.Words.{same_name}
 use Rattle.lexer.specs.Items.{Item}
@@ -19,7 +27,7 @@ use Rattle.typenames.specs.declared.Scope.{Scope}
 use Rattle.typenames.specs.declared.Scope.TheVariants.{Program}
 use Rattle.typenames.proofs.Laws.Named.{named_append}
 use Rattle.typenames.proofs.Laws.Slots.{same_passes}
-use Rattle.typenames.proofs.Laws.Marked.{marked-passes, marked_room, all_list, all_still, all_append}
+use Rattle.typenames.proofs.Laws.Marked.{marked-passes, marked_room, all_list, all_still}
 
 -- names that pass a test that says the same of names that are the same
 module _ (f : List ℕ → Bool) (w : List ℕ) (agree : (n : List ℕ) → same_name n w ≡ true → f n ≡ f w) where
@@ -71,22 +79,26 @@ all_passing p (n ∷ ns) room =
 
 -- where the list stands after the slots, and its names and those of the source are marked, all type names are let through
 pub all_prepared : (opening p list : List ℕ) (ts : List Item) → slots ≤ length p → drop slots p ≡ list
-    → prepared_names opening (marked_all (marked_all p (entries list)) (declared opening zero ts)) ts ≡ type_names opening (entries list) ts
+    → prepared_names opening (marked_all p (entries list ++ declared opening zero ts)) ts ≡ type_names opening (entries list) ts
 unfolding prepared_names type_names
 all_prepared opening p list ts room after =
-    let listed = entries list in
-    let more = declared opening zero ts in
-    rw (← all_append p listed more, all_list p (listed ++ more), after) (all_passing p (listed ++ more) room)
+    let names = entries list ++ declared opening zero ts in
+    rw (all_list p names, after) (all_passing p names room)
 
--- a list that is copied after the slots, so far
-module _ (p list : List ℕ) (at : ℕ) (room : length p ≡ slots + length list) (copied : take at (drop slots p) ≡ take at list) where
-  pub copied_more : at < length list → take (at + 1) (drop slots (set p (slots + at) (get_or list at 0))) ≡ take (at + 1) list
-  copied_more below =
-      let l = length-drop slots p in
-      rw (add-one at, drop-set-add slots p at (get_or list at 0), take-suc-set (drop slots p) at (get_or list at 0) (omega arith), copied)
-      (sym (take-suc list at 0 below))
+-- a list that is copied to the end of another
+module _ (a : ℕ) (p copy list : List ℕ) (room : length p ≡ a + length list) (is : copy ≡ list) where
+  pub copied-length : length (put_mid a (length p - a) p copy) ≡ a + length list
+  copied-length = rw is (search (rules, overwrites))
 
-  pub copied_all : length list ≤ at → drop slots p ≡ list
-  copied_all end =
-      let l = length-drop slots p in
-      sym (take_all at (drop slots p) (omega arith)) ∙ copied ∙ take_all at list end
+  pub copied : drop a (put_mid a (length p - a) p copy) ≡ list
+  copied =
+      let past = drop-length (drop a p) in
+      let l = length-drop a p in
+      drop_at (take a p) _ a (length-take-le a p (omega arith)) ∙ rw (is, ← l, past) (append-nil list)
+
+-- the part of a prepared list after the slots, or nothing where there are not so many
+pub list_part : (p : List ℕ) (part : Option (Bor (List ℕ))) (none : Bor (List ℕ)) → none.now ≡ [] → IsGetRangeResult p slots (length p) part
+    → (unwrap_or part none).now ≡ drop slots p
+list_part p None none empty got =
+    rw (empty, front_none p slots (⊎_elim (λ (h : length p < slots). omega arith) (λ (h : length p < length p). omega arith) got.0))
+list_part p (Some part) none empty got = got.0.2 ∙ take_rest p slots

@@ -35,6 +35,8 @@ module _ (w : List ℕ) (at h : ℕ) where
   unfolding hash_from
   hash_end end = rw (front_none w at end)
 
+pub ruleset hashing = (hash_more, hash_end)
+
 -- a name has the slot of what it is read as
 hash_pair : (h a b : ℕ) (s : List ℕ) (t : Bool) → two_colons (a ∷ b ∷ []) ≡ t
     → ((k : ℕ) → hash_from k (as_name s) ≡ hash_from k s)

@@ -1,9 +1,14 @@
 -- Document 01's number and place of the answer for a list.
-use Rattle.std.specs.Prelude.{ℕ, List, [], ◌∷◌}
+use Rattle.std.specs.Prelude.{ℕ, List, [], ◌∷◌, Result, Ok, Err}
 use Rattle.lexer.specs.Editions.{Edition}
-use Rattle.typenames.specs.declared.Checked.{Checked}
-use Rattle.typenames.specs.declared.Checked.TheVariants.{Good, Refused}
-use Rattle.typenames.specs.NameList.{checked}
+use Rattle.lexer.specs.internal.RefusalNumbers.{reason_number}
+use Rattle.lexer.specs.declared.refusals.Refusal.{Refusal}
+use Rattle.typenames.specs.NameList.{Checked, Good, Refused, checked}
+
+-- the code's answer as one of the specification's
+abbrev pub as_checked : Result Unit Refusal → Checked
+as_checked (Ok good) = Good
+as_checked (Err refusal) = Refused (reason_number refusal.reason) refusal.place
 
 -- document 01's number and values for each case of the answer, as two numbers: 0 and 0, or the refusal's number and its place
 unfoldable pub checked_values : Checked → List ℕ

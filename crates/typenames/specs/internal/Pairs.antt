@@ -1,13 +1,15 @@
 -- A name read byte by byte, "with `::` read as `__`", from places each of which may be inside of a `::`.
 use Prim.Native.Char.{code}
-use Rattle.std.specs.Prelude.{ℕ, Bool, false, List, drop, get_or}
-use Rattle.lexer.specs.Tests.{or, pick}
-use Rattle.lexer.specs.Words.{two_colons}
+use Rattle.std.specs.Prelude.{ℕ, Bool, true, false, List, [], ◌∷◌}
+use Rattle.lexer.specs.Words.{as_name}
+use Rattle.typenames.specs.declared.compare.Read.{Read}
 
--- what the byte at a place is read as
-abbrev pub read_at : List ℕ → ℕ → Bool → ℕ
-read_at name at inside = pick (or inside (two_colons (drop at name))) (code "_") (get_or name at 0)
+-- what some bytes of a name are read as, where the first of them may be inside
+abbrev pub read_from : Bool → List ℕ → List ℕ
+read_from true [] = []
+read_from true (b ∷ s) = code "_" ∷ as_name s
+read_from false s = as_name s
 
--- whether the next place is inside
-abbrev pub inside_after : List ℕ → ℕ → Bool → Bool
-inside_after name at inside = pick inside false (two_colons (drop at name))
+-- what is still to be read of a name
+abbrev pub read_left : Read → List ℕ
+read_left r = read_from r.inside r.rest.now

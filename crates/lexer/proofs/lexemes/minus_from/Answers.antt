@@ -5,15 +5,14 @@ use mathlib.Core.Path.{◌≡◌, ◌∙◌, sym}
 use native.Mathlib.Omega.{arith}
 use lib.ListN.{drop, length-drop}
 use Rattle.lexer.specs.Bytes.{is_digit}
-use Rattle.lexer.specs.Lexemes.{number, mark, or_else}
+use Rattle.lexer.specs.Lexemes.{Token, BadByte, number, mark, or_else}
 use Rattle.lexer.specs.internal.Editions.{edition_of}
 use Rattle.lexer.specs.internal.Kinds.{minus}
-use Rattle.lexer.specs.declared.Lexeme.TheVariants.{Token, BadByte}
 use Rattle.lexer.proofs.Laws.Runs.{run_le}
 use Rattle.lexer.proofs.Laws.Editions.{fits}
 use Rattle.lexer.proofs.Laws.Lexemes.{minus-digits, minus-none, minus_alone, minus-mark}
 use Rattle.lexer.proofs.lexemes.minus_from.Goals as goal
-use Rattle.lexer.proofs.lexemes.minus_from.Goals.{Start}
+use Rattle.lexer.proofs.lexemes.minus_from.Goals.{Start, else-at-whole-via-then-at-whole+else-is_signed, else-at-whole-via-else-at-whole}
 
 -- where no number begins with it, the minus is a mark
 marked : (c : Start) → let e = edition_of c.args.edition in
@@ -39,14 +38,14 @@ returns-then-is_signed c =
     ∙ minus-digits _ _ c.requires.at_in_bounds.0 c.requires.at_in_bounds.1 (edition_of c.args.edition) signed _ c.requires.whole_value
     c.if-at-whole.true _
 
-pub returns-else-is_signed : goal.returns-else-is_signed
-returns-else-is_signed c =
-    let start = (goal.at.returns-else-is_signed c).Start in
-    let plain = sym c.is_signed.ensures ∙ c.if-is_signed.false in
-    marked start (minus_alone _ _ c.requires.at_in_bounds.0 c.requires.at_in_bounds.1 _ plain)
-
-pub returns-else-at-whole : goal.returns-else-at-whole
-returns-else-at-whole c =
-    let start = (goal.at.returns-else-at-whole c).Start in let whole = c.requires.whole_value in
-    let none = c.if-at-whole.false in
-    marked start (minus-none _ _ c.requires.at_in_bounds.0 c.requires.at_in_bounds.1 _ (omega arith))
+pub returns : goal.returns
+returns c =
+    let at = c.requires.at_in_bounds in
+    let start = (goal.at.returns c).Start in
+    elim c.else-at-whole.branch [
+      | else-at-whole-via-then-at-whole+else-is_signed w ↦ marked start (minus_alone _ _ at.0 at.1 _ (sym w.is_signed.ensures ∙ w.if-is_signed.false))
+      | else-at-whole-via-else-at-whole w ↦
+          let whole = c.requires.whole_value in
+          let none = w.if-at-whole.false in
+          marked start (minus-none _ _ at.0 at.1 _ (omega arith))
+    ]

@@ -1,22 +1,10 @@
 -- `lexer::lexemes::slash_at` meets its contract. Assumes nothing.
-use Prim.Native.Nat.{ℕ, ◌+◌}
+use Prim.Native.Nat.{ℕ}
 use mathlib.Core.Path.{◌∙◌, sym, ap}
-use Rattle.lexer.specs.Lexemes.{or_else}
-use Rattle.lexer.specs.declared.Lexeme.{Lexeme}
-use Rattle.lexer.proofs.Laws.Numbers.{begins_inside}
+use Rattle.lexer.specs.Lexemes.{Lexeme, or_else}
 use Rattle.lexer.proofs.Laws.Lexemes.{comment_found, comment_lost}
 use native.Mathlib.Omega.{arith}
 use Rattle.lexer.proofs.lexemes.slash_at.Goals as goal
-
-pub overflow_add-at-then-begins_either : goal.overflow_add-at-then-begins_either
-overflow_add-at-then-begins_either c =
-    let args = c.args in
-    let begins-either = c.begins_either in
-    let i = begins_inside args.source.now (args.at + 1) 47 47 (sym begins-either.ensures ∙ c.if-begins_either.true) in
-    omega arith
-
-pub overflow_sub-result : goal.overflow_sub-result
-overflow_sub-result c = let e = c.run_end-end.ensures in omega arith
 
 pub returns-then-begins_either : goal.returns-then-begins_either
 unfolding or_else

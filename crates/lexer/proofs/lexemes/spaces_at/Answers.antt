@@ -3,13 +3,10 @@ use Prim.Native.Nat.{ℕ}
 use mathlib.Core.Path.{◌∙◌, sym, ap}
 use native.Mathlib.Omega.{arith}
 use Rattle.lexer.specs.Bytes.{is_space}
-use Rattle.lexer.specs.declared.Lexeme.{Lexeme}
+use Rattle.lexer.specs.Lexemes.{Lexeme}
 use Rattle.lexer.proofs.Laws.Runs.{run_goes_on}
 use Rattle.lexer.proofs.Laws.Lexemes.{spaces_some}
 use Rattle.lexer.proofs.lexemes.spaces_at.Goals as goal
-
-pub overflow_sub-result : goal.overflow_sub-result
-overflow_sub-result c = let e = c.run_end-end.ensures in omega arith
 
 pub returns : goal.returns
 returns c =

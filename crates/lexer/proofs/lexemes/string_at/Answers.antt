@@ -2,15 +2,10 @@
 use Prim.Native.Nat.{ℕ}
 use mathlib.Core.Path.{◌∙◌, sym, ap}
 use Rattle.lexer.specs.internal.Kinds.{string}
-use Rattle.lexer.specs.declared.Lexeme.{Lexeme}
+use Rattle.lexer.specs.Lexemes.{Lexeme}
 use Rattle.lexer.proofs.Laws.Lexemes.{string_closed, string_open}
 use native.Mathlib.Omega.{arith}
 use Rattle.lexer.proofs.lexemes.string_at.Goals as goal
-
-pub overflow_sub-result : goal.overflow_sub-result
-overflow_sub-result c =
-    let run-end = c.run_end-end in
-    let e = run-end.ensures in omega arith
 
 pub returns-then-end-source : goal.returns-then-end-source
 returns-then-end-source c =

@@ -1,26 +1,18 @@
--- `lexer::marks::arrow_at` meets its contract: the two bytes that follow, if they are there, are compared. Assumes nothing.
+-- `lexer::marks::arrow_at` meets its contract: the two bytes that follow are compared, and a 0 stands for one that is not there.
+-- Assumes nothing.
 use mathlib.Core.Path.{◌∙◌, sym}
-use lib.ListN.{get_or-eq_default}
-use native.Mathlib.Omega.{arith}
 use Rattle.lexer.proofs.Laws.Marks.{arrow_found_at, arrow_none_at, arrow_cut_at}
 use Rattle.lexer.proofs.marks.arrow_at.Goals as goal
+use Rattle.lexer.proofs.marks.arrow_at.Goals.{else-byte_at-via-then-byte_at+else-byte_at-2, else-byte_at-via-else-byte_at}
 
-pub returns-then-byte_at : goal.returns-then-byte_at
-returns-then-byte_at c =
-    let if2 = c.if-source-next in
-    let byte_at = c.byte_at in
-    sym (arrow_found_at _ _ c.requires.0 c.requires.1 if2.true (sym byte_at.ensures ∙ c.if-byte_at.true))
+pub returns-then-byte_at-2 : goal.returns-then-byte_at-2
+returns-then-byte_at-2 c =
+    sym (arrow_found_at _ _ c.requires.0 c.requires.1 (sym c.byte_at.ensures ∙ c.if-byte_at.true)
+    (sym c.byte_at-then-byte_at.ensures ∙ c.if-byte_at-2.true))
 
-pub returns-else-byte_at : goal.returns-else-byte_at
-returns-else-byte_at c =
-    let byte_at = c.byte_at in
-    sym (arrow_cut_at _ _ c.requires.0 c.requires.1 (λ e. c.if-byte_at.false (byte_at.ensures ∙ e)))
-
-pub returns-else-source-next : goal.returns-else-source-next
-returns-else-source-next c =
-    sym (arrow_none_at _ _ c.requires.0 c.requires.1 c.if-source-next.false)
-
-pub returns-else-next-source : goal.returns-else-next-source
-returns-else-next-source c =
-    let past = get_or-eq_default c.args.source.now 0 c.if-next-source.false in
-    sym (arrow_none_at _ _ c.requires.0 c.requires.1 (λ e. omega arith))
+pub returns : goal.returns
+returns c = elim c.else-byte_at.branch [
+  | else-byte_at-via-then-byte_at+else-byte_at-2 w ↦
+      sym (arrow_cut_at _ _ c.requires.0 c.requires.1 (λ e. w.if-byte_at-2.false (w.byte_at-then-byte_at.ensures ∙ e)))
+  | else-byte_at-via-else-byte_at w ↦ sym (arrow_none_at _ _ c.requires.0 c.requires.1 (λ e. w.if-byte_at.false (c.byte_at.ensures ∙ e)))
+]

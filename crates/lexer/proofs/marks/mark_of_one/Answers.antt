@@ -1,14 +1,11 @@
 -- `lexer::marks::mark_of_one` meets its contract. Assumes nothing.
-use mathlib.Core.Path.{◌∙◌, sym}
+use mathlib.Core.Path.{sym}
+use Rattle.lexer.proofs.Laws.KindNumbers.{some_kind}
 use Rattle.lexer.proofs.Laws.Marks.{mark_found, mark_lost}
 use Rattle.lexer.proofs.marks.mark_of_one.Goals as goal
 
-pub returns-then-kind-eq0 : goal.returns-then-kind-eq0
-returns-then-kind-eq0 c =
-    let mark-kind = c.mark_kind-kind in
-    sym (mark_lost _ _ _ (sym mark-kind.ensures ∙ c.if-kind-eq0.true))
+pub returns-in-Some : goal.returns-in-Some
+returns-in-Some c = rw (← c.in-Some.ensures) (sym (mark_found _ _ _ (some_kind c.in-Some.kind)))
 
-pub returns : goal.returns
-returns c =
-    let mark-kind = c.mark_kind-kind in
-    rw mark-kind.ensures (sym (mark_found _ _ _ (λ e. c.if-kind-eq0.false (mark-kind.ensures ∙ e))))
+pub returns-in-None : goal.returns-in-None
+returns-in-None c = sym (mark_lost _ _ _ (sym c.in-None.ensures))

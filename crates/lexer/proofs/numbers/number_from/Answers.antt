@@ -11,14 +11,6 @@ returns-then-point-whole c =
     let none = c.if-point-whole.true in
     sym (int-from _ _ _ pre.0 (omega arith))
 
-pub overflow_sub-result-2 : goal.overflow_sub-result-2
-overflow_sub-result-2 c =
-    let pre = c.requires in
-    let point = c.fraction_end-point.ensures in
-    let end = c.exponent_end-end.ensures in
-    let after = pre.0 in
-    omega arith
-
 pub returns : goal.returns
 returns c =
     let pre = c.requires in

@@ -1,4 +1,5 @@
 -- `lexer::packed::pack_lexeme` meets its contract. Assumes nothing.
+use mathlib.Core.Logic.{inl, inr}
 use native.Mathlib.Omega.{arith}
 use Rattle.lexer.specs.executable.Scans.{lexeme_size}
 use Rattle.lexer.specs.internal.Packed.{packed}
@@ -18,12 +19,7 @@ overflow_add-at c =
 
 pub pack-requires : goal.pack-requires
 unfolding lexeme_size
-pack-requires c =
-    rw c.in-Token.is at c.requires
-
-pub returns-in-End : goal.returns-in-End
-unfolding packed
-returns-in-End c = rw c.in-End.is
+pack-requires c = rw c.in-Token.is at c.requires
 
 pub returns-in-Skipped : goal.returns-in-Skipped
 unfolding packed
@@ -31,12 +27,8 @@ returns-in-Skipped c = rw c.in-Skipped.is
 
 pub returns-in-Token : goal.returns-in-Token
 unfolding packed
-returns-in-Token c = rw c.in-Token.is c.pack.ensures
+returns-in-Token c = rw (c.in-Token.is, ← c.number.ensures) c.pack.ensures
 
-pub returns-in-BadByte : goal.returns-in-BadByte
+pub returns-in-End : goal.returns-in-End
 unfolding packed
-returns-in-BadByte c = rw c.in-BadByte.is
-
-pub returns-in-OpenString : goal.returns-in-OpenString
-unfolding packed
-returns-in-OpenString c = rw c.in-OpenString.is
+returns-in-End c = elim c.in-End.is [ inl e ↦ rw e | inr r ↦ elim r [ inl e ↦ rw e | inr e ↦ rw e ] ]

@@ -7,13 +7,6 @@ use Rattle.lexer.specs.internal.Entries.{mark_entry, byte_entry}
 use Rattle.lexer.proofs.Laws.Computed.{entry}
 use Rattle.lexer.proofs.passes.scan.Goals as goal
 
-pub last_stop-stop-requires : goal.last_stop-stop-requires
+pub invariant_of-entries : goal.invariant_of-entries
 unfolding byte_entry mark_entry is_space is_digit is_letter word_kind or_ident kind_of reserved same spelled_marks and or between among
-last_stop-stop-requires c = λ b below. entry byte_entry 256 b below
-
-pub scan_lexemes-requires : goal.scan_lexemes-requires
-unfolding byte_entry mark_entry is_space is_digit is_letter word_kind or_ident kind_of reserved same spelled_marks and or between among
-scan_lexemes-requires c = (c.requires, λ b below. entry byte_entry 256 b below, c.last_stop-stop.ensures)
-
-pub returns : goal.returns
-returns c = c.scan_lexemes.ensures
+invariant_of-entries c = record { told = λ b below. entry byte_entry 256 b below }

@@ -9,23 +9,23 @@ loop-i-init c = refl
 
 pub block_passes-requires : goal.block_passes-requires
 block_passes-requires c =
-    let bytes-from = c.bytes_from-last in
+    let bytes-from = c.saturating_sub-last in
     let last = bytes-from.ensures in
     let some = c.loop-i-test.true in
     omega arith
 
-pub stop_ahead-requires : goal.stop_ahead-requires
-stop_ahead-requires c =
+pub end_inside-requires : goal.end_inside-requires
+end_inside-requires c =
     c.block_passes.ensures.source_in_bounds c.if-not-block_passes.true
 
 pub returns-then-not-block_passes : goal.returns-then-not-block_passes
 returns-then-not-block_passes c =
     let loop = c.loop-i in
-    c.stop_ahead.ensures ∙ loop.invariant
+    c.end_inside.ensures ∙ loop.invariant
 
 pub overflow_add-i : goal.overflow_add-i
 overflow_add-i c =
-    let bytes-from = c.bytes_from-last in
+    let bytes-from = c.saturating_sub-last in
     let loop-test = c.loop-i-test in
     let last = bytes-from.ensures in
     let some = loop-test.true in
@@ -33,7 +33,7 @@ overflow_add-i c =
 
 pub loop-i-smaller : goal.loop-i-smaller
 loop-i-smaller c =
-    let bytes-from = c.bytes_from-last in
+    let bytes-from = c.saturating_sub-last in
     let loop-test = c.loop-i-test in
     let last = bytes-from.ensures in
     let some = loop-test.true in
@@ -47,4 +47,4 @@ loop-i-preserved c =
 pub returns : goal.returns
 returns c =
     let loop = c.loop-i in
-    c.stop_after.ensures ∙ loop.invariant
+    c.end_of.ensures ∙ loop.invariant

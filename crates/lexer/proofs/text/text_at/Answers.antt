@@ -7,11 +7,11 @@ use Rattle.lexer.proofs.text.text_at.Goals as goal
 pub returns : goal.returns
 unfolding item_of
 returns c =
-    let at_most = c.at_most-start in
-    let at-most2 = c.at_most-len in
+    let start = c.min-start in
+    let len = c.min-len in
     let size-at = c.size_at in
     let start-at = c.start_at in
     let args = c.args in
-    let size = add-sub_cancel_left at_most.result at-most2.result in
-    rw (size, at-most2.ensures, size-at.ensures, at_most.ensures, start-at.ensures)
+    let size = add-sub_cancel_left start.result len.result in
+    rw (size, len.ensures, size-at.ensures, start.ensures, start-at.ensures)
     (text_cut args.source.now _ _)

@@ -7,7 +7,7 @@ use Rattle.lexer.proofs.tokens.count_tokens.Goals as goal
 pub returns-then-source-gt-SOURCE_LIMIT : goal.returns-then-source-gt-SOURCE_LIMIT
 unfolding counted
 returns-then-source-gt-SOURCE_LIMIT c =
-    let v = valued scanned_values _ _ (rw (lt-ltb _ _ c.if-source-gt-SOURCE_LIMIT.true)) in
+    let v = valued scanned_values _ _ (rw (c.new.ensures, lt-ltb _ _ c.if-source-gt-SOURCE_LIMIT.true)) in
     record { answer = v.0; values = v.1 }
 
 pub returns : goal.returns

@@ -2,72 +2,44 @@
 -- Assumes nothing.
 use mathlib.Core.Path.{◌≡◌, ◌∙◌, sym}
 use native.Mathlib.Nat.{add-sub_cancel_left}
-use lib.ListN.{drop}
-use Rattle.lexer.specs.Words.{word_length}
-use Rattle.lexer.proofs.Laws.Words.{one_inside, kind_one-at, kind_other, word_le, no_word, ident-word, letter_word}
 use native.Mathlib.Omega.{arith}
+use lib.ListN.{drop, take}
+use Rattle.lexer.specs.internal.Kinds.{ident}
+use Rattle.lexer.specs.Words.{word_length, word_kind}
+use Rattle.lexer.proofs.Laws.KindNumbers.{is_ident, not_ident}
+use Rattle.lexer.proofs.Laws.Words.{one_byte, one_inside, kind_one-at, kind_other, word_le, no_word, ident-word, letter_word}
 use Rattle.lexer.proofs.words.word_at.Goals as goal
-use Rattle.lexer.proofs.words.word_at.Goals.{Then-end-at-eq1}
-
--- what the second test tells where it holds
-one : (c : Then-end-at-eq1) → let a = c.args in word_length (drop a.at a.source.now) ≡ 1
-one c = let e = c.word_end-end.ensures in let t = c.if-end-at-eq1.true in omega arith
+use Rattle.lexer.proofs.words.word_at.Goals.{Joined-end-at-eq1, then-end-at-eq1+else-ne, else-end-at-eq1}
 
 pub returns-then-end-at : goal.returns-then-end-at
-returns-then-end-at c =
-    let args = c.args in
-    let word-end = c.word_end-end in
-    sym (no_word args.source.now args.at (let e = word-end.ensures in let t = c.if-end-at.true in omega arith))
-
-pub overflow_sub-end : goal.overflow_sub-end
-overflow_sub-end c =
-    let word-end = c.word_end-end in
-    let e = word-end.ensures in omega arith
+returns-then-end-at c = sym (no_word c.args.source.now c.args.at (let e = c.word_end-end.ensures in let t = c.if-end-at.true in omega arith))
 
 pub bounds-source-at : goal.bounds-source-at
-bounds-source-at c =
-    let args = c.args in
-    let at-if2 = (goal.at.bounds-source-at c).Then-end-at-eq1 in
-    one_inside args.source.now args.at (one at-if2)
+bounds-source-at c = one_inside _ _ (one_byte _ _ _ c.word_end-end.ensures c.if-end-at-eq1.true)
 
-pub returns-then-kind-ne-IDENT : goal.returns-then-kind-ne-IDENT
-returns-then-kind-ne-IDENT c =
-    let letter-kind = c.letter_kind-kind in
-    let args = c.args in
-    let at-if2 = (goal.at.returns-then-kind-ne-IDENT c).Then-end-at-eq1 in
-    rw letter-kind.ensures (sym (letter_word args.source.now args.at (one at-if2) (λ e. c.if-kind-ne-IDENT.true (letter-kind.ensures ∙ e))))
+pub returns-then-ne : goal.returns-then-ne
+returns-then-ne c =
+    let length = one_byte _ _ _ c.word_end-end.ensures c.if-end-at-eq1.true in
+    let other = not_ident _ (sym c.ne.ensures ∙ c.if-ne.true) in
+    rw c.letter_kind-kind.ensures (sym (letter_word c.args.source.now c.args.at length (λ e. other (c.letter_kind-kind.ensures ∙ e))))
 
-pub joined-requires : goal.joined-requires
-joined-requires c =
-    let word-end = c.word_end-end in
-    let e = word-end.ensures in omega arith
-
-pub returns-then-end-at-eq1 : goal.returns-then-end-at-eq1
-returns-then-end-at-eq1 c =
-    let at-if2 = (goal.at.returns-then-end-at-eq1 c).Then-end-at-eq1 in let args = c.args in
-    let letter-kind = c.letter_kind-kind in
-    let if3 = c.if-kind-ne-IDENT in
-    let word-end = c.word_end-end in
-    let one = one at-if2 in
-    let kind = kind_one-at args.source.now args.at one ∙ sym letter-kind.ensures ∙ if3.false in
-    c.joined.ensures ∙ rw (word-end.ensures, add-sub_cancel_left args.at _)
-    (sym (ident-word args.source.now args.at (omega arith) (rw one kind)))
-
-pub joined-requires-2 : goal.joined-requires-2
-joined-requires-2 c =
-    let word-end = c.word_end-end in
-    let e = word-end.ensures in omega arith
+-- a word that is longer, or whose letter alone has that kind, is an IDENT
+ident-there : (c : Joined-end-at-eq1) → let d = drop c.args.at c.args.source.now in word_kind (take (word_length d) d) ≡ ident
+ident-there c =
+    let s = c.args.source.now in
+    let ends = c.word_end-end.ensures in
+    elim c.if-end-at-eq1.branch [
+      | then-end-at-eq1+else-ne w ↦
+          let length = one_byte _ _ _ ends w.if-end-at-eq1.true in
+          rw length (kind_one-at s c.args.at length ∙ sym w.letter_kind-kind.ensures ∙ is_ident _ (sym w.ne.ensures ∙ w.if-ne.false))
+      | else-end-at-eq1 w ↦
+          let d = drop c.args.at s in
+          kind_other (word_length d) d (word_le d) (λ (q : word_length d ≡ 1). w.if-end-at-eq1.false (omega arith))
+    ]
 
 pub returns : goal.returns
 returns c =
-    let word-end = c.word_end-end in
-    let if1 = c.if-end-at in
-    let if2 = c.if-end-at-eq1 in
-    let args = c.args in
-    let e = word-end.ensures in
-    let first = if1.false in
-    let second = if2.false in
-    let d = drop args.at args.source.now in
-    let kind = kind_other (word_length d) d (word_le d) (λ (q : word_length d ≡ 1). second (omega arith)) in
-    c.joined-2.ensures ∙ rw (e, add-sub_cancel_left args.at _)
-    (sym (ident-word args.source.now args.at (omega arith) kind))
+    let e = c.word_end-end.ensures in
+    let first = c.if-end-at.false in
+    let kind = ident-there (goal.at.returns c).Joined-end-at-eq1 in
+    c.joined.ensures ∙ rw (e, add-sub_cancel_left c.args.at _) (sym (ident-word c.args.source.now c.args.at (omega arith) kind))

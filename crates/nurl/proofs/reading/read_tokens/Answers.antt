@@ -1,7 +1,7 @@
 -- `nurl::reading::read_tokens` meets its contract: what the reader of the program says, with room for its rows or without. Assumes
 -- nothing.
 use Prim.Native.Nat.{◌+◌}
-use mathlib.Core.Path.{◌≡◌, sym, ◌∙◌}
+use mathlib.Core.Path.{◌≡◌, refl, sym, ◌∙◌}
 use mathlib.Core.List.{◌++◌}
 use native.Mathlib.Omega.{arith}
 use lib.ListN.{length, take, drop}
@@ -12,8 +12,8 @@ use Rattle.typenames.specs.TypeNames.{opening17}
 use Rattle.typenames.specs.internal.Prepared.{prepared_names}
 use Rattle.grammar.specs.Languages.{language17}
 use Rattle.grammar.specs.Sources.{names_of}
-use Rattle.nurl.proofs.Laws.Rows.{kept_size, front_inside, front_counts, lent_names, tokens_good, accepted_rows, full_rows}
-use Rattle.nurl.proofs.Laws.Rows.{refused_rows}
+use Rattle.nurl.proofs.Laws.Results.{left_by}
+use Rattle.nurl.proofs.Laws.Rows.{kept_size, front_inside, front_counts, lent_names, tokens_good, accepted_rows, full_rows, refused_rows}
 use Rattle.nurl.proofs.reading.read_tokens.Goals as goal
 use Rattle.nurl.proofs.reading.read_tokens.Goals.{After-prepare}
 
@@ -57,39 +57,36 @@ named c =
     lent_names c.prepare.new.prepared (drop (4096 + length c.args.names.now) c.names_buffer-buffer.result) _ _ _
     (prepared-size c) c.prepare.ensures
 
-pub read_program-step-requires : goal.read_program-step-requires
-read_program-step-requires c =
+pub read_program-requires : goal.read_program-requires
+read_program-requires c =
     tokens_good c.args.source.now c.args.names.now c.args.tokens.now c.requires.source_len_bound c.requires.source_value
 
-pub returns-then-room-needed : goal.returns-then-room-needed
-returns-then-room-needed c =
-    let if1 = c.if-room-needed in
-    let names = named (goal.at.returns-then-room-needed c).After-prepare in
-    let args = c.args in
-    let over = if1.true in
-    let same = c.read_program-step.auto.rows in
-    let is-room = c.room.ensures in
-    let law = full_rows args.source.now args.names.now args.tokens.now c.requires.source_len_bound c.requires.source_value args.rows.now _ _ names _
-    c.read_program-step.ensures.reads _ _ c.in-Read.is (omega arith) in
-    record { answer = law.0; table = c.clear.ensures ∙ law.1 }
-
-pub returns-in-Refused : goal.returns-in-Refused
-returns-in-Refused c =
-    let names = named (goal.at.returns-in-Refused c).After-prepare in
+pub returns-in_err-reached : goal.returns-in_err-reached
+returns-in_err-reached c =
+    let names = named (goal.at.returns-in_err-reached c).After-prepare in
     let args = c.args in
     let v = refused_rows args.source.now args.names.now args.tokens.now c.requires.source_len_bound c.requires.source_value args.rows.now _ _ names
-    _ c.read_program-step.ensures.reads
-    _ _ c.in-Refused.is (c.read_program-step.ensures.refused _ _ c.in-Refused.is) in
-    record { answer = v.0; table = v.1 }
+    _ c.in_err-reached.ensures.reads _ _ refl (c.in_err-reached.ensures.refused _ _ refl) in
+    record { answer = left_by _ _ c.from_residual.ensures.1 ∙ v.0; table = v.1 }
 
-pub returns-else-room-needed : goal.returns-else-room-needed
-returns-else-room-needed c =
-    let names = named (goal.at.returns-else-room-needed c).After-prepare in
+pub returns-then-room-reached : goal.returns-then-room-reached
+returns-then-room-reached c =
+    let names = named (goal.at.returns-then-room-reached c).After-prepare in
     let args = c.args in
-    let fits = c.if-room-needed.false in
-    let same = c.read_program-step.auto.rows in
+    let over = c.if-room-reached.true in
+    let same = c.read_program.auto.rows in
+    let is-room = c.room.ensures in
+    let law = full_rows args.source.now args.names.now args.tokens.now c.requires.source_len_bound c.requires.source_value args.rows.now _ _ names _
+    c.in_ok-reached.ensures.reads _ _ refl (omega arith) in
+    record { answer = law.0; table = c.clear.ensures ∙ law.1 }
+
+pub returns : goal.returns
+returns c =
+    let names = named (goal.at.returns c).After-prepare in
+    let args = c.args in
+    let fits = c.if-room-reached.false in
+    let same = c.read_program.auto.rows in
     let is-room = c.room.ensures in
     let v = accepted_rows args.source.now args.names.now args.tokens.now c.requires.source_len_bound c.requires.source_value args.rows.now _ _ names
-    _ c.read_program-step.ensures.reads
-    _ _ c.in-Read.is (omega arith) in
+    _ c.in_ok-reached.ensures.reads _ _ refl (omega arith) in
     record { answer = v.0; table = v.1 }

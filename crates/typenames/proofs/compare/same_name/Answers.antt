@@ -1,42 +1,20 @@
--- `typenames::compare::same_name` meets its contract: the names are the same exactly where what is left of them is. Assumes nothing.
-use mathlib.Core.Path.{◌∙◌, sym}
-use Rattle.typenames.proofs.Laws.Compared.{lengths_differ, left_whole, left_none, left_differ, left_agree}
-use native.Mathlib.Omega.{arith}
+-- `typenames::compare::same_name` meets its contract: two names of one length are the same where each byte is read as the one at its
+-- place. Assumes nothing.
+use mathlib.Core.Path.{sym, ◌∙◌}
+use Rattle.std.proofs.Common.{rules, tests}
+use Rattle.std.proofs.lemmas.Iterator.{same_from_all, YieldsList-from_zip}
+use Rattle.std.proofs.lemmas.Iterator.Consumers.{YieldsList-from_first}
+use Rattle.lexer.specs.Words.{as_name}
+use Rattle.typenames.specs.internal.Pairs.{read_left}
+use Rattle.typenames.proofs.Laws.Compared.{lengths_differ, name_length, same_of}
 use Rattle.typenames.proofs.compare.same_name.Goals as goal
 
 pub returns-then-a-b : goal.returns-then-a-b
-returns-then-a-b c =
-    let args = c.args in
-    sym (lengths_differ args.a.now args.b.now c.if-a-b.true)
-
-pub loop-at-init : goal.loop-at-init
-loop-at-init c =
-    let args = c.args in
-    (omega arith, left_whole args.a.now args.b.now)
-
-pub returns-then-read_at : goal.returns-then-read_at
-returns-then-read_at c =
-    let if1 = c.if-a-b in
-    let loop = c.loop-at in
-    let loop-test = c.loop-at-test in
-    let lengths = if1.false in
-    sym (left_differ loop.invariant.1 loop-test.true (omega arith)
-    (λ e. c.if-read_at.true (c.read_at.ensures ∙ e ∙ sym c.read_at-in-loop-at.ensures)))
-
-pub loop-at-preserved : goal.loop-at-preserved
-loop-at-preserved c =
-    let if1 = c.if-a-b in
-    let if2 = c.if-read_at in
-    let loop = c.loop-at in
-    let loop-test = c.loop-at-test in
-    let lengths = if1.false in
-    let agree = sym c.read_at.ensures ∙ if2.false ∙ c.read_at-in-loop-at.ensures in
-    let left = left_agree loop.invariant.1 loop-test.true (omega arith) agree in
-    (omega arith, rw (c.inside_after-inside_a.ensures, c.inside_after-inside_b.ensures) left)
+returns-then-a-b c = sym (lengths_differ c.args.a.now c.args.b.now c.if-a-b.true)
 
 pub returns : goal.returns
 returns c =
-    let if1 = c.if-a-b in
-    let loop = c.loop-at in
-    let lengths = if1.false in
-    sym (left_none loop.invariant.1 c.loop-at-test.false (omega arith))
+    same_of _ _ _ (same_from_all {s = c.zip.result} c.all.new.self _ _ (as_name c.args.a.now) (as_name c.args.b.now) c.all.ensures.ran
+    (YieldsList-from_zip (YieldsList-from_first (λ x. x) read_left _ cc) (YieldsList-from_first (λ x. x) read_left _ cc))
+    (name_length c.args.a.now ∙ c.if-a-b.false ∙ sym (name_length c.args.b.now)) (λ x q k. search (rules, tests))
+    (λ x q k. search (rules, tests)))

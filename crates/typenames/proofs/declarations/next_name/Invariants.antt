@@ -1,11 +1,8 @@
 -- `typenames::declarations::next_name` meets its contract: no name is declared before the row reached. Assumes nothing.
-use Prim.Native.Nat.{◌≤◌, ◌-◌}
+use Prim.Native.Nat.{◌≤◌}
 use Rattle.typenames.specs.TypeNames.{opening17}
 use Rattle.typenames.proofs.Laws.Declared.{Reached}
 use Rattle.typenames.proofs.declarations.next_name.Given as goal
 
 abbrev pub invariant-loop-at : goal.invariant-loop-at
-invariant-loop-at l = (l.from ≤ l.at) × (l.depth ≤ l.at) × (l.at ≤ l.rows) × Reached opening17 l.tokens l.from l.at l.depth
-
-abbrev pub decreases-loop-at : goal.decreases-loop-at
-decreases-loop-at l = l.rows - l.at
+invariant-loop-at l = (l.depth ≤ l.at) × Reached opening17 l.tokens l.from l.at l.depth

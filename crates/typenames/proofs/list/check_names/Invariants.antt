@@ -1,15 +1,15 @@
--- `typenames::list::check_names` meets its contract: the answer from the place reached on is the whole answer.
--- Assumes nothing.
-use Prim.Native.Nat.{◌≤◌, ◌-◌}
+-- `typenames::list::check_names` meets its contract: the answer for the entries that are left is the whole answer, and they and their
+-- bytes 10 are within the list. Assumes nothing.
+use Prim.Native.Nat.{◌≤◌, ◌+◌}
 use mathlib.Core.Path.{◌≡◌}
-use lib.ListN.{length, drop}
+use lib.ListN.{length}
 use Rattle.lexer.specs.Editions.{edition17}
-use Rattle.typenames.specs.NameList.{split, entries, first_bad}
+use Rattle.typenames.specs.NameList.{entries, first_bad}
+use Rattle.typenames.specs.internal.Entries.{entries_left}
+use Rattle.typenames.proofs.Laws.Entries.{extent}
 use Rattle.typenames.proofs.list.check_names.Given as goal
 
-abbrev pub invariant-loop-at : goal.invariant-loop-at
-invariant-loop-at l =
-    (l.at ≤ length l.list) × (first_bad edition17 0 (entries l.list) ≡ first_bad edition17 l.at (split (drop l.at l.list)))
-
-abbrev pub decreases-loop-at : goal.decreases-loop-at
-decreases-loop-at l = length l.list - l.at
+abbrev pub invariant-loop-entry : goal.invariant-loop-entry
+invariant-loop-entry l =
+    let left = entries_left l.entry-iterator in
+    (l.place + extent left ≤ length l.list + 1) × (first_bad edition17 0 (entries l.list) ≡ first_bad edition17 l.place left)

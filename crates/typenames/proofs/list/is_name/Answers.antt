@@ -1,35 +1,37 @@
 -- `typenames::list::is_name` meets its contract. Assumes nothing.
-use borrow.Author.Tests.{eq-eqb, ne_eqb}
+use Prim.Native.Nat.{ℕ}
+use mathlib.Core.Path.{◌≡◌, refl, ◌∙◌, sym}
+use mathlib.Core.Bool.{false}
+use lib.ListN.{length}
 use Rattle.lexer.specs.Tests.{and}
+use Rattle.lexer.specs.declared.kinds.TokenKind.{TokenKind}
+use Rattle.lexer.specs.declared.Lexeme.{Lexeme as CodeLexeme}
+use Rattle.lexer.specs.internal.CodeLexemes.{as_lexeme}
+use Rattle.lexer.proofs.Laws.KindNumbers.{same_kind}
 use Rattle.typenames.specs.NameList.{is_ident, is_name}
 use Rattle.typenames.proofs.list.is_name.Goals as goal
 
-pub returns-then-kind-eq-IDENT : goal.returns-then-kind-eq-IDENT
+pub returns-then-eq : goal.returns-then-eq
 unfolding is_name is_ident and
-returns-then-kind-eq-IDENT c =
-    rw (← c.lexeme_at-first.ensures, c.in-Token.is, eq-eqb _ _ c.if-kind-eq-IDENT.true)
+returns-then-eq c =
+    let ident = sym (same_kind c.in-Token.kind TokenKind.Ident) ∙ sym c.eq.ensures ∙ c.if-eq.true in
+    rw (← c.in-Token.ensures, ident)
 
-pub returns-in-End : goal.returns-in-End
-unfolding is_name is_ident
-returns-in-End c =
-    rw (← c.lexeme_at-first.ensures, c.in-End.is)
-
-pub returns-in-Skipped : goal.returns-in-Skipped
-unfolding is_name is_ident
-returns-in-Skipped c =
-    rw (← c.lexeme_at-first.ensures, c.in-Skipped.is)
-
-pub returns-else-kind-eq-IDENT : goal.returns-else-kind-eq-IDENT
+pub returns-else-eq : goal.returns-else-eq
 unfolding is_name is_ident and
-returns-else-kind-eq-IDENT c =
-    rw (← c.lexeme_at-first.ensures, c.in-Token.is, ne_eqb _ _ c.if-kind-eq-IDENT.false)
+returns-else-eq c =
+    let other = sym (same_kind c.in-Token.kind TokenKind.Ident) ∙ sym c.eq.ensures ∙ c.if-eq.false in
+    rw (← c.in-Token.ensures, other) c.if-eq.false
 
-pub returns-in-BadByte : goal.returns-in-BadByte
-unfolding is_name is_ident
-returns-in-BadByte c =
-    rw (← c.lexeme_at-first.ensures, c.in-BadByte.is)
+-- what is no token is no name
+no_token : (l : CodeLexeme) (n : ℕ) → ((kind : TokenKind) (len : ℕ) → l ≡ CodeLexeme.Token kind len → ⊥) → false ≡ is_ident n (as_lexeme l)
+unfolding is_ident
+no_token CodeLexeme.End n other = refl
+no_token (CodeLexeme.Skipped m) n other = refl
+no_token (CodeLexeme.Token k m) n other = absurd (other k m refl)
+no_token CodeLexeme.BadByte n other = refl
+no_token CodeLexeme.OpenString n other = refl
 
-pub returns-in-OpenString : goal.returns-in-OpenString
-unfolding is_name is_ident
-returns-in-OpenString c =
-    rw (← c.lexeme_at-first.ensures, c.in-OpenString.is)
+pub returns-in_default : goal.returns-in_default
+unfolding is_name
+returns-in_default c = rw (← c.lexeme_at-first.ensures) (no_token c.lexeme_at-first.result (length c.args.entry.now) c.in_default.not-Token)

@@ -1,0 +1,8 @@
+-- `lexer::table::kind_at` meets its contract. Assumes nothing.
+use mathlib.Core.Path.{◌∙◌}
+use native.Mathlib.Omega.{arith}
+use Rattle.lexer.proofs.Laws.Rows.{own_number}
+use Rattle.lexer.proofs.table.kind_at.Goals as goal
+
+pub returns : goal.returns
+returns c = c.number_at.ensures ∙ own_number _ _ 0 (omega arith)

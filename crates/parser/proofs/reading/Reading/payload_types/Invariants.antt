@@ -1,0 +1,14 @@
+-- What the loop of `Reading::payload_types` keeps. Assumes nothing.
+use Rattle.grammar.specs.internal.Nonterminals.{payload_types}
+use Rattle.parser.specs.internal.Steps.{step_at}
+use Rattle.parser.specs.internal.Readers.{names_of}
+use Rattle.parser.proofs.Laws.Loops.{ahead}
+use Rattle.parser.proofs.Laws.Results.{Listing}
+use Rattle.parser.proofs.reading.Reading.payload_types.Given as goal
+
+abbrev pub invariant-loop-rows : goal.invariant-loop-rows
+invariant-loop-rows l =
+    Listing l.self l.self.source.now (names_of l.self) l.left payload_types l.initial.place l.initial.rows l.place l.rows
+
+abbrev pub decreases-loop-rows : goal.decreases-loop-rows
+decreases-loop-rows l = ahead l.self.tokens.now (step_at l.place)

@@ -1,0 +1,15 @@
+-- `typenames::names::is_declared` meets its contract: it asks every declared name. Assumes nothing.
+use mathlib.Core.Path.{◌∙◌}
+use Rattle.std.proofs.Common.{rules, tests}
+use Rattle.std.proofs.lemmas.Iterator.Search.{any_from_yields_List}
+use Rattle.std.proofs.lemmas.Iterator.Consumers.{YieldsList-from_first}
+use Rattle.lexer.specs.Words.{same_name}
+use Rattle.typenames.specs.internal.Declared.{declared_left}
+use Rattle.typenames.proofs.Laws.Named.{any_named}
+use Rattle.typenames.proofs.names.is_declared.Goals as goal
+
+pub returns : goal.returns
+returns c =
+    any_from_yields_List {s = c.by.result} (λ n. same_name n c.args.word.now) c.any.new.self _ _ c.any.ensures.ran
+    (YieldsList-from_first (λ x. x.now) declared_left _ c.by.ensures) (λ x b q k. search (rules, tests))
+    ∙ any_named _ _

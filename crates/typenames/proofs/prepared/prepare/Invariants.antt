@@ -1,0 +1,8 @@
+-- `typenames::prepared::prepare` meets its contract: the names so far are marked in the copied list. Assumes nothing.
+use mathlib.Core.Path.{◌≡◌}
+use mathlib.Core.List.{map}
+use Rattle.typenames.specs.internal.Prepared.{marked_all}
+use Rattle.typenames.proofs.prepared.prepare.Given as goal
+
+abbrev pub invariant-loop-name : goal.invariant-loop-name
+invariant-loop-name l = l.prepared ≡ marked_all l.initial.prepared (map (λ n. n.now) l.yielded)

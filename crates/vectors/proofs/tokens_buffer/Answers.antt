@@ -1,7 +1,0 @@
--- The length of a repeat, with nothing computed.
-use Rattle.std.proofs.Common.{ℕ, sym}
-use lib.ListN.{length-replicate}
-use Rattle.vectors.proofs.tokens_buffer.Goals as goal
-
-pub returns : goal.returns
-returns c = sym (length-replicate {0} {A = ℕ} 750000 0)
