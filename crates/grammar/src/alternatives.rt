@@ -7,7 +7,8 @@ ghost use Rattle.grammar.specs.internal.Forms.{type_form_number, expression_form
 use crate::forms::{DeclarationForm, ExpressionForm, StatementForm, TypeForm};
 use crate::tables;
 
-// What a table has for a token's kind. What is not a kind begins nothing.
+// What a table has for a token's kind, a number as the token table holds it. What is not a kind begins nothing. The four functions below name
+// a table and a nonterminal each, and are this one otherwise.
 fn entry<F: Copy>(table: &[Option<F>; tables::SIZE], kind: u32) -> Option<F>
     ensures { result ≡ get_or table.now kind None }
 {

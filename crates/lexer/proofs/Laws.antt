@@ -11,8 +11,9 @@ pub mod Editions
 pub mod Marks
 pub mod Lexemes
 pub mod Entries
+pub mod Bounded
 pub mod Packed
-pub mod PackedMarks
+pub mod ByteNumbers
 pub mod Scans
 pub mod Gaps
 pub mod Places

@@ -1,4 +1,5 @@
 -- What the functions of this crate promise each other and the crates above, and the kinds as constants. The promise of `nurl` does not depend on it.
+pub mod ByteNumbers
 pub mod Class
 pub mod CodeLexemes
 pub mod Editions

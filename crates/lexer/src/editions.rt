@@ -1,4 +1,5 @@
 // What the tokeniser asks of an edition of the grammar: the two points in which the lexical rules of editions differ.
+// Two methods of one body, and not one method: each caller asks for the rule that it goes by, and the two rules are two equations.
 ghost use Rattle.std.specs.Prelude.{◌≡◌};
 ghost use Rattle.lexer.specs.internal.Editions.{edition_of, has_shifts};
 

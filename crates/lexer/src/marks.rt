@@ -72,13 +72,14 @@ fn arrow_at(source: &[u8], at: usize) -> Lexeme
     ensures { as_lexeme result ≡ mark_of (kind_of edition17.marks (take 3 (drop at source.now))) 3 BadByte }
 {
     let next = at + 1;
-    if bytes::byte_at(source, next) == 0x86 && bytes::byte_at(source, next + 1) == 0x92 {
+    if source.get(next) == Some(&0x86) && source.get(next + 1) == Some(&0x92) {
         return Lexeme::Token(TokenKind::Arrow, 3);
     }
     Lexeme::BadByte
 }
 
-// The mark at `at`. Only `→` has more than two bytes, and a byte 0 after the end changes no mark.
+// The mark at `at`. Only `→` has more than two bytes. Part of the pass, as the rules in `lexemes` are.
+#[inline(always)]
 pub fn mark_at(edition: Edition, source: &[u8], at: usize) -> Lexeme
     ensures { as_lexeme result ≡ mark (edition_of edition) (drop at source.now) }
 {
@@ -88,6 +89,8 @@ pub fn mark_at(edition: Edition, source: &[u8], at: usize) -> Lexeme
     if first == 0xE2 {
         return arrow_at(source, at);
     }
-    let second = bytes::byte_at(source, at + 1);
-    mark_of_two(edition, first, second)
+    match source.get(at + 1) {
+        Some(&second) => mark_of_two(edition, first, second),
+        None => mark_of_one(first),
+    }
 }

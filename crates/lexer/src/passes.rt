@@ -1,21 +1,22 @@
 // A pass over a whole source: its tokens are counted up to its first fault, and written into as many rows as a lent table has.
-ghost use Rattle.std.specs.Prelude.{◌≡◌, true, ◌+◌, ◌≤◌, ◌<◌, eqb, length, drop, get_or};
+ghost use Rattle.std.specs.Prelude.{◌≡◌, true, not, ◌+◌, ◌≤◌, ◌<◌, eqb, length, drop, get_or};
 ghost use Rattle.lexer.specs.Tests.{and, pick};
-ghost use Rattle.lexer.specs.Lexemes.{lexeme};
+ghost use Rattle.lexer.specs.Bytes.{is_word_byte};
 ghost use Rattle.lexer.specs.Table.{source_limit, kept};
 ghost use Rattle.lexer.specs.executable.Scans.{scan};
 ghost use Rattle.lexer.specs.internal.Leaves.{blank};
 ghost use Rattle.lexer.specs.internal.Editions.{edition_of};
 ghost use Rattle.lexer.specs.internal.Entries.{Stop};
-ghost use Rattle.lexer.specs.internal.Tokenized.{as_scanned, scanned, ended_by};
+ghost use Rattle.lexer.specs.internal.Tokenized.{as_scanned, scanned};
 
-use crate::entries::ByteTable;
-use crate::packed::{PACKING, Scanner};
+use crate::runs::{ByteTest, Word};
+use crate::scanner::Scanner;
 use crate::table::TokenRow;
-use crate::{Edition, Lexeme, Reason, Refusal, entries, lexemes, table};
+use crate::{Edition, Lexeme, Reason, Refusal, table};
 
-impl Scanner<'_, '_> {
-    // The place after the blank at `at`, or `at` where none stands or nothing is known of the bytes there, as `bounded` says.
+impl Scanner<'_> {
+    // The place after the blank at `at`, or `at` where none stands or nothing is known of the bytes there, as `bounded` says. It is told so by
+    // the flag that `lexeme` is told.
     fn after_blank(&self, at: usize, bounded: bool) -> usize
         requires { bounded ≡ true → at < length self.now.source.now }
         ensures { result ≡ at + pick (and bounded (eqb (get_or self.now.source.now at 0) blank)) 1 0 }
@@ -24,18 +25,6 @@ impl Scanner<'_, '_> {
             return at + 1;
         }
         at
-    }
-
-    // What a pass answers that has met so many tokens and ends at `at`.
-    fn ended(&self, edition: Edition, at: usize, count: usize) -> Result<usize, Refusal>
-        ensures { as_scanned result ≡ ended_by (lexeme (edition_of edition) (drop at self.now.source.now)) at count }
-    {
-        let last = lexemes::lexeme_at(edition, self.source, at);
-        match last {
-            Lexeme::BadByte => Err(Refusal::new(Reason::BadByte, at)),
-            Lexeme::OpenString => Err(Refusal::new(Reason::OpenString, at)),
-            _ => Ok(count),
-        }
     }
 
     // The pass, lexeme by lexeme. A word that stands before or at `stop` ends before the source does. Each turn goes on where its lexeme
@@ -56,30 +45,35 @@ impl Scanner<'_, '_> {
         loop {
             let bounded = at < stop;
             let from = self.after_blank(at, bounded);
-            let found = self.packed_lexeme(edition, from, bounded);
-            let end = (found % PACKING) as usize;
-            let kind = (found / PACKING) as u32;
-            if kind == 0 {
-                if end == 0 {
-                    return self.ended(edition, from, count);
+            match self.lexeme(edition, from, bounded) {
+                Lexeme::Token(kind, len) => {
+                    let kind = kind.number();
+                    let start = from as u32;
+                    let size = len as u32;
+                    table::put_token(table, count, TokenRow { kind, start, size });
+                    count += 1;
+                    at = from + len;
                 }
-            } else {
-                let start = from as u32;
-                let size = (end - from) as u32;
-                table::put_token(table, count, TokenRow { kind, start, size });
-                count += 1;
+                Lexeme::Skipped(len) => at = from + len,
+                Lexeme::End => return Ok(count),
+                Lexeme::BadByte => return Err(Refusal::new(Reason::BadByte, from)),
+                Lexeme::OpenString => return Err(Refusal::new(Reason::OpenString, from)),
             }
-            at = end;
         }
     }
 
-    // The place of the last byte over which no word goes on, or 0.
+    // The place of the last byte over which no word goes on, or 0. No `Option`: it is asked only what stands before it, which is nothing
+    // at 0, and with `None` each turn of the pass would ask two things for that one.
     fn last_stop(&self) -> usize
         ensures { Stop self.now.source.now result }
     {
         self.source
             .iter()
-            .rposition(|b| self.entries.entry_of(*b) < entries::DIGIT)
+            .rposition(
+                |b|
+                    ensures { result ≡ not (is_word_byte b.now) }
+                { !Word.passes(*b) },
+            )
             .unwrap_or(0)
     }
 }
@@ -90,11 +84,7 @@ pub(crate) fn scan(edition: Edition, source: &[u8], table: &mut [u32]) -> Result
     ensures value { as_scanned result ≡ scanned (scan (edition_of edition) source.now) }
     ensures table_after { table.new ≡ kept source.now (scan (edition_of edition) source.now).found table.old }
 {
-    let table_of_bytes = entries::ENTRIES;
-    let entries = ByteTable {
-        entries: &table_of_bytes,
-    };
-    let scanner = Scanner { source, entries };
+    let scanner = Scanner { source };
     let stop = scanner.last_stop();
     scanner.scan_lexemes(edition, stop, table)
 }

@@ -10,7 +10,7 @@ pub fn room<const WIDTH: usize>(table: &[u32]) -> usize
     table.len() / WIDTH
 }
 
-// The number in a column of a row, 0 past the whole rows.
+// The number in a column of a row, and past the whole rows document 01's 0.
 pub fn number_at<const WIDTH: usize>(table: &[u32], row: usize, column: usize) -> u32
     requires { column < WIDTH }
     ensures { result ≡ number_at WIDTH table.now row column }

@@ -9,8 +9,8 @@ use crate::rows;
 // How many numbers a row has.
 pub const WIDTH: usize = 3;
 
-// The numbers of a row: a token's kind, the offset of its first byte, and its size in bytes.
-#[derive(Drop)]
+// The numbers of a row, as C lends a table of numbers: a token's kind, the offset of its first byte, and its size in bytes.
+#[derive(Clone, Copy)]
 pub struct TokenRow {
     pub kind: u32,
     pub start: u32,

@@ -8,7 +8,7 @@ ghost use Rattle.lexer.specs.internal.CodeLexemes.{as_lexeme};
 use crate::bytes::ByteClass;
 use crate::{Class, Lexeme, TokenKind, bytes, runs};
 
-// Where the word at `at` ends, or `at` where there is none.
+// Where the word at `at` ends. Where there is none, it is one of no bytes and ends at `at`.
 pub fn word_end(source: &[u8], at: usize) -> usize
     ensures { result ≡ at + word_length (drop at source.now) }
 {
@@ -18,7 +18,7 @@ pub fn word_end(source: &[u8], at: usize) -> usize
     at
 }
 
-// Where the IDENT at `at` ends, or `at` where there is none.
+// Where the IDENT at `at` ends. Where there is none, it is one of no bytes and ends at `at`.
 fn ident_end(source: &[u8], at: usize) -> usize
     ensures { result ≡ at + ident_length (drop at source.now) }
 {
@@ -33,7 +33,7 @@ fn ident_end(source: &[u8], at: usize) -> usize
 pub fn two_colons(source: &[u8], at: usize) -> bool
     ensures { result ≡ two_colons (drop at source.now) }
 {
-    bytes::byte_at(source, at) == b':' && bytes::byte_at(source, at + 1) == b':'
+    source.get(at) == Some(&b':') && source.get(at + 1) == Some(&b':')
 }
 
 // Where an IDENT that ends at `end` ends with all that joins it. The place goes on by the length of each part, so no `for` fits.

@@ -6,12 +6,12 @@ pub mod Views
 pub mod Kinds
 pub mod Readers
 pub mod Results
+pub mod Repeated
 pub mod Loops
 pub mod Options
 pub mod Openings
 pub mod Words
 pub mod Types
-pub mod Operators
 pub mod Expressions
 pub mod Statements
 pub mod Matches

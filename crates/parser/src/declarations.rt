@@ -1,8 +1,9 @@
 // The readers of declarations, and of a whole program.
 #![tactic(auto, using(crate::proofs::Laws::Results::wide))]
 
-ghost use Rattle.std.specs.Prelude.{◌≡◌, true, false, [], ◌∷◌, ℕ, ◌<◌, eqb};
-ghost use Rattle.lexer.specs.internal.Kinds.{at as atSign, bar};
+ghost use Rattle.std.specs.Prelude.{◌≡◌, true, false, not, [], ◌∷◌, ℕ, ◌+◌, eqb};
+ghost use Rattle.lexer.specs.Tests.{pick};
+ghost use Rattle.lexer.specs.internal.Kinds.{at as atSign, bar, left_brace};
 ghost use Rattle.tree.specs.TreeTable.{cleared};
 ghost use Rattle.grammar.specs.Grammars.{query, derived};
 ghost use Rattle.grammar.specs.Nurl.{plain_name};
@@ -11,12 +12,14 @@ ghost use Rattle.grammar.specs.internal.Alternatives.{kind_alternative};
 ghost use Rattle.grammar.specs.internal.Nonterminals.{declaration as aDeclaration, functions as functionList, function as aFunction};
 ghost use Rattle.grammar.specs.internal.Nonterminals.{methods as methodList, method as aMethod, variants as variantList};
 ghost use Rattle.grammar.specs.internal.Nonterminals.{variant as aVariant, payload_types, program as aProgram};
-ghost use Rattle.parser.specs.internal.Steps.{Tokens, Refused, step_at, step_of, next_kind, begins_part, asked_at, AnswersKinds, payload_begins};
+ghost use Rattle.parser.specs.internal.Steps.{Tokens, Refused, step_at, step_of, next_kind, asked_at, AnswersKinds, payload_begins};
 ghost use Rattle.parser.specs.internal.Steps.{opened};
+ghost use Rattle.parser.specs.internal.Presence.{is_required};
 ghost use Rattle.parser.specs.internal.Readings.{ReadsAll, ReadsWhole};
 ghost use Rattle.parser.specs.internal.Readers.{Stands, Arrives, ReadsBy, ReadsKindsBy, names_of};
 
 use crate::Place;
+use crate::presence::Presence;
 use crate::reading::Reading;
 use crate::steps::close_row;
 use crate::words::Words;
@@ -25,17 +28,10 @@ use lexer::{Refusal, TokenKind};
 use tree::RowKind;
 use typenames::Scope;
 
-// The kind of the place after the last token.
+// The kind of the place after the last token, document 01's 0 for what is past a table.
 const END: u32 = 0;
 
-impl Reading<'_> {
-    // Whether the next token begins a declaration.
-    fn begins_declaration(&self, from: Place) -> bool
-        ensures { result ≡ begins_part aDeclaration self.now.tokens.now (step_at from) }
-    {
-        grammar::declaration_form(self.kind(from)).is_some()
-    }
-
+impl<'a> Reading<'a> {
     // A declaration.
     fn declaration(&self, rows: &mut [u32], from: Place, left: usize) -> Result<Place, Refusal>
         requires { Stands self.now 1 from }
@@ -45,24 +41,21 @@ impl Reading<'_> {
         let Some(form) = grammar::declaration_form(self.kind(from)) else {
             return Err(from.no_program());
         };
-        if left == 0 {
-            return Err(from.too_deep());
-        }
+        let below = from.below(left)?;
         match form {
-            DeclarationForm::Import => self.import(rows, from, left),
-            DeclarationForm::Foreign => self.foreign(rows, from, left),
-            DeclarationForm::Function => self.function(rows, from, left),
-            DeclarationForm::Definition => self.definition(rows, from, left),
-            DeclarationForm::Interface => self.interface(rows, from, left),
+            DeclarationForm::Import => self.import(rows, from, below),
+            DeclarationForm::Foreign => self.foreign(rows, from, below),
+            DeclarationForm::Function => self.function(rows, from, left, Presence::Required),
+            DeclarationForm::Definition => self.definition(rows, from, below),
+            DeclarationForm::Interface => self.interface(rows, from, below),
         }
     }
 
     // An import.
-    fn import(&self, rows: &mut [u32], from: Place, left: usize) -> Result<Place, Refusal>
+    fn import(&self, rows: &mut [u32], from: Place, below: usize) -> Result<Place, Refusal>
         requires stands { Stands self.now 1 from }
-        requires left_nonzero { 0 < left }
         requires form { kind_alternative aDeclaration (next_kind self.now.tokens.now (step_at from)) ≡ 1 }
-        ensures reads { ReadsKindsBy self.now left 1 aDeclaration from rows.old result rows.new }
+        ensures reads { ReadsKindsBy self.now (below + 1) 1 aDeclaration from rows.old result rows.new }
         ensures arrives { Arrives self.now result }
     {
         let opened = self.open(from);
@@ -72,185 +65,173 @@ impl Reading<'_> {
     }
 
     // A foreign function.
-    fn foreign(&self, rows: &mut [u32], from: Place, left: usize) -> Result<Place, Refusal>
+    fn foreign(&self, rows: &mut [u32], from: Place, below: usize) -> Result<Place, Refusal>
         requires stands { Stands self.now 1 from }
-        requires left_nonzero { 0 < left }
         requires form { kind_alternative aDeclaration (next_kind self.now.tokens.now (step_at from)) ≡ 2 }
-        ensures reads { ReadsKindsBy self.now left 1 aDeclaration from rows.old result rows.new }
+        ensures reads { ReadsKindsBy self.now (below + 1) 1 aDeclaration from rows.old result rows.new }
         ensures arrives { Arrives self.now result }
     {
         let opened = self.open(from);
         let sourced = self.take(opened, TokenKind::String)?;
         let marked = self.take(sourced, TokenKind::At)?;
         let named = self.take(marked, TokenKind::Ident)?;
-        let listed = self.fields(rows, named, left - 1)?;
+        let listed = self.parameters(rows, named, below, Presence::Optional)?;
         let arrowed = self.take(listed, TokenKind::Arrow)?;
-        let typed = self.read_type(rows, arrowed, left - 1)?;
+        let typed = self.read_type(rows, arrowed, below)?;
         Ok(close_row(rows, from, typed, RowKind::Foreign))
     }
 
-    // A function.
-    fn function(&self, rows: &mut [u32], from: Place, left: usize) -> Result<Place, Refusal>
+    // A function: its header, and its body where it has one. It is inlined into its two callers, since a reading is faster so.
+    #[inline(always)]
+    fn function(
+        &self,
+        rows: &mut [u32],
+        from: Place,
+        left: usize,
+        bodies: Presence,
+    ) -> Result<Place, Refusal>
         requires stands { Stands self.now 1 from }
         requires at_sign { next_kind self.now.tokens.now (step_at from) ≡ atSign }
-        ensures reads { ReadsBy self.now left 1 aFunction from rows.old result rows.new }
+        ensures reads { ReadsBy self.now left 1 (pick (is_required bodies) aFunction aMethod) from rows.old result rows.new }
         ensures arrives { Arrives self.now result }
     {
-        if left == 0 {
-            return Err(from.too_deep());
-        }
+        let below = from.below(left)?;
         let opened = self.open(from);
         let named = self.take(opened, TokenKind::Ident)?;
-        let listed = self.optional_list(rows, named, left - 1, Words::Plain)?;
-        let given = self.parameters(rows, listed, left - 1)?;
+        let listed = self.optional_list(rows, named, below, Words::Plain)?;
+        let given = self.parameters(rows, listed, below, Presence::Required)?;
         let arrowed = self.take(given, TokenKind::Arrow)?;
-        let typed = self.read_type(rows, arrowed, left - 1)?;
-        let ended = self.block(rows, typed, left - 1)?;
+        let typed = self.read_type(rows, arrowed, below)?;
+        if self.lacks_body(typed, bodies) {
+            return Ok(close_row(rows, from, typed, RowKind::Header));
+        }
+        let ended = self.block(rows, typed, below)?;
         Ok(close_row(rows, from, ended, RowKind::Function))
     }
 
+    // Whether a function ends with its header: its body may be missing, and is.
+    fn lacks_body(&self, from: Place, bodies: Presence) -> bool
+        ensures { result ≡ pick (is_required bodies) false (not (eqb (next_kind self.now.tokens.now (step_at from)) left_brace)) }
+    {
+        match bodies {
+            Presence::Required => false,
+            Presence::Optional => !self.next_is(from, TokenKind::LeftBrace),
+        }
+    }
+
+    // Whether the next token begins a function, or the header of one.
+    fn begins_function(&self, from: Place) -> bool
+        ensures { result ≡ eqb (next_kind self.now.tokens.now (step_at from)) atSign }
+    {
+        self.next_is(from, TokenKind::At)
+    }
+
     // As many functions as there are.
-    fn functions(&self, rows: &mut [u32], from: Place, left: usize) -> Result<Place, Refusal>
+    fn functions(
+        &self,
+        rows: &mut [u32],
+        from: Place,
+        left: usize,
+        bodies: Presence,
+    ) -> Result<Place, Refusal>
         requires { Stands self.now 0 from }
-        ensures reads { ReadsBy self.now left 0 functionList from rows.old result rows.new }
+        ensures reads { ReadsBy self.now left 0 (pick (is_required bodies) functionList methodList) from rows.old result rows.new }
         ensures arrives { Arrives self.now result }
     {
-        let mut place = from;
-        while self.next_is(place, TokenKind::At) {
-            place = self.function(rows, place, left)?;
-        }
-        Ok(place)
-    }
-
-    // A method of a trait: a function, or the header of one.
-    fn method(&self, rows: &mut [u32], from: Place, left: usize) -> Result<Place, Refusal>
-        requires stands { Stands self.now 1 from }
-        requires at_sign { next_kind self.now.tokens.now (step_at from) ≡ atSign }
-        ensures reads { ReadsBy self.now left 1 aMethod from rows.old result rows.new }
-        ensures arrives { Arrives self.now result }
-    {
-        if left == 0 {
-            return Err(from.too_deep());
-        }
-        let opened = self.open(from);
-        let named = self.take(opened, TokenKind::Ident)?;
-        let listed = self.optional_list(rows, named, left - 1, Words::Plain)?;
-        let given = self.parameters(rows, listed, left - 1)?;
-        let arrowed = self.take(given, TokenKind::Arrow)?;
-        let typed = self.read_type(rows, arrowed, left - 1)?;
-        if self.next_is(typed, TokenKind::LeftBrace) {
-            let ended = self.block(rows, typed, left - 1)?;
-            return Ok(close_row(rows, from, ended, RowKind::Function));
-        }
-        Ok(close_row(rows, from, typed, RowKind::Header))
-    }
-
-    // As many methods as there are.
-    fn methods(&self, rows: &mut [u32], from: Place, left: usize) -> Result<Place, Refusal>
-        requires { Stands self.now 0 from }
-        ensures reads { ReadsBy self.now left 0 methodList from rows.old result rows.new }
-        ensures arrives { Arrives self.now result }
-    {
-        let mut place = from;
-        while self.next_is(place, TokenKind::At) {
-            place = self.method(rows, place, left)?;
-        }
-        Ok(place)
+        let read = |reading: &Reading, rows: &mut [u32], from: Place, left: usize| {
+            reading.function(rows, from, left, bodies)
+        };
+        self.repeated(rows, from, left, Self::begins_function, read)
     }
 
     // A trait, or the implementation of one for a type.
-    fn interface(&self, rows: &mut [u32], from: Place, left: usize) -> Result<Place, Refusal>
+    fn interface(&self, rows: &mut [u32], from: Place, below: usize) -> Result<Place, Refusal>
         requires stands { Stands self.now 1 from }
-        requires left_nonzero { 0 < left }
         requires form { kind_alternative aDeclaration (next_kind self.now.tokens.now (step_at from)) ≡ 5 }
-        ensures reads { ReadsBy self.now left 1 aDeclaration from rows.old result rows.new }
+        ensures reads { ReadsBy self.now (below + 1) 1 aDeclaration from rows.old result rows.new }
         ensures arrives { Arrives self.now result }
     {
         let opened = self.open(from);
         let named = self.take(opened, TokenKind::Ident)?;
-        let listed = self.optional_list(rows, named, left - 1, Words::Plain)?;
+        let listed = self.optional_list(rows, named, below, Words::Plain)?;
         if self.next_is(listed, TokenKind::LeftBrace) {
             let braced = self.take(listed, TokenKind::LeftBrace)?;
-            let held = self.methods(rows, braced, left - 1)?;
+            let held = self.functions(rows, braced, below, Presence::Optional)?;
             let ended = self.take(held, TokenKind::RightBrace)?;
             return Ok(close_row(rows, from, ended, RowKind::Trait));
         }
-        let typed = self.read_type(rows, listed, left - 1)?;
+        let typed = self.read_type(rows, listed, below)?;
         let braced = self.take(typed, TokenKind::LeftBrace)?;
-        let held = self.functions(rows, braced, left - 1)?;
+        let held = self.functions(rows, braced, below, Presence::Required)?;
         let ended = self.take(held, TokenKind::RightBrace)?;
         Ok(close_row(rows, from, ended, RowKind::Impl))
     }
 
     // A struct, an enum or a constant, by what follows its `:`.
-    fn definition(&self, rows: &mut [u32], from: Place, left: usize) -> Result<Place, Refusal>
+    fn definition(&self, rows: &mut [u32], from: Place, below: usize) -> Result<Place, Refusal>
         requires stands { Stands self.now 1 from }
-        requires left_nonzero { 0 < left }
         requires form { kind_alternative aDeclaration (next_kind self.now.tokens.now (step_at from)) ≡ 4 }
-        ensures reads { ReadsBy self.now left 1 aDeclaration from rows.old result rows.new }
+        ensures reads { ReadsBy self.now (below + 1) 1 aDeclaration from rows.old result rows.new }
         ensures arrives { Arrives self.now result }
     {
         let opened = self.open(from);
         if self.opens_struct(opened) {
-            return self.structure(rows, from, left);
+            return self.structure(rows, from, below);
         }
         if self.next_is(opened, TokenKind::Bar) {
-            return self.enumeration(rows, from, left);
+            return self.enumeration(rows, from, below);
         }
-        self.constant(rows, from, left)
+        self.constant(rows, from, below)
     }
 
     // A struct.
-    fn structure(&self, rows: &mut [u32], from: Place, left: usize) -> Result<Place, Refusal>
+    fn structure(&self, rows: &mut [u32], from: Place, below: usize) -> Result<Place, Refusal>
         requires stands { Stands self.now 1 from }
-        requires left_nonzero { 0 < left }
         requires form { kind_alternative aDeclaration (next_kind self.now.tokens.now (step_at from)) ≡ 4 }
         requires opens { AnswersKinds (query opens_struct) self.now.tokens.now (opened (step_at from)) true }
-        ensures reads { ReadsKindsBy self.now left 1 aDeclaration from rows.old result rows.new }
+        ensures reads { ReadsKindsBy self.now (below + 1) 1 aDeclaration from rows.old result rows.new }
         ensures arrives { Arrives self.now result }
     {
         let opened = self.open(from);
         let named = self.take(opened, TokenKind::Ident)?;
-        let listed = self.optional_list(rows, named, left - 1, Words::Plain)?;
+        let listed = self.optional_list(rows, named, below, Words::Plain)?;
         let braced = self.take(listed, TokenKind::LeftBrace)?;
-        let held = self.fields(rows, braced, left - 1)?;
+        let held = self.parameters(rows, braced, below, Presence::Optional)?;
         let ended = self.take(held, TokenKind::RightBrace)?;
         Ok(close_row(rows, from, ended, RowKind::Struct))
     }
 
     // An enum.
-    fn enumeration(&self, rows: &mut [u32], from: Place, left: usize) -> Result<Place, Refusal>
+    fn enumeration(&self, rows: &mut [u32], from: Place, below: usize) -> Result<Place, Refusal>
         requires stands { Stands self.now 1 from }
-        requires left_nonzero { 0 < left }
         requires form { kind_alternative aDeclaration (next_kind self.now.tokens.now (step_at from)) ≡ 4 }
         requires bar { next_kind self.now.tokens.now (opened (step_at from)) ≡ bar }
-        ensures reads { ReadsBy self.now left 1 aDeclaration from rows.old result rows.new }
+        ensures reads { ReadsBy self.now (below + 1) 1 aDeclaration from rows.old result rows.new }
         ensures arrives { Arrives self.now result }
     {
         let opened = self.open(from);
         let marked = self.take(opened, TokenKind::Bar)?;
         let named = self.take(marked, TokenKind::Ident)?;
         let braced = self.take(named, TokenKind::LeftBrace)?;
-        let held = self.variants(rows, braced, left - 1)?;
+        let held = self.variants(rows, braced, below)?;
         let ended = self.take(held, TokenKind::RightBrace)?;
         Ok(close_row(rows, from, ended, RowKind::Enum))
     }
 
     // A constant.
-    fn constant(&self, rows: &mut [u32], from: Place, left: usize) -> Result<Place, Refusal>
+    fn constant(&self, rows: &mut [u32], from: Place, below: usize) -> Result<Place, Refusal>
         requires stands { Stands self.now 1 from }
-        requires left_nonzero { 0 < left }
         requires form { kind_alternative aDeclaration (next_kind self.now.tokens.now (step_at from)) ≡ 4 }
         requires opens { AnswersKinds (query opens_struct) self.now.tokens.now (opened (step_at from)) false }
         requires bar { eqb (next_kind self.now.tokens.now (opened (step_at from))) bar ≡ false }
-        ensures reads { ReadsKindsBy self.now left 1 aDeclaration from rows.old result rows.new }
+        ensures reads { ReadsKindsBy self.now (below + 1) 1 aDeclaration from rows.old result rows.new }
         ensures arrives { Arrives self.now result }
     {
         let opened = self.open(from);
         let mutable = self.take_if(opened, TokenKind::Tilde);
-        let typed = self.read_type(rows, mutable, left - 1)?;
+        let typed = self.read_type(rows, mutable, below)?;
         let named = self.take(typed, TokenKind::Ident)?;
-        let valued = self.literal(rows, named, left - 1)?;
+        let valued = self.literal(rows, named, below)?;
         Ok(close_row(rows, from, valued, RowKind::Constant))
     }
 
@@ -260,11 +241,7 @@ impl Reading<'_> {
         ensures reads { ReadsBy self.now left 0 variantList from rows.old result rows.new }
         ensures arrives { Arrives self.now result }
     {
-        let mut place = from;
-        while self.plain_name(place) {
-            place = self.variant(rows, place, left)?;
-        }
-        Ok(place)
+        self.repeated(rows, from, left, Self::plain_name, Self::variant)
     }
 
     // A variant: its name and its payload types.
@@ -274,12 +251,10 @@ impl Reading<'_> {
         ensures reads { ReadsBy self.now left 1 aVariant from rows.old result rows.new }
         ensures arrives { Arrives self.now result }
     {
-        if left == 0 {
-            return Err(from.too_deep());
-        }
+        let below = from.below(left)?;
         let inner = self.reserve(from);
         let named = self.take(inner, TokenKind::Ident)?;
-        let held = self.payload_types(rows, named, left - 1)?;
+        let held = self.payload_types(rows, named, below)?;
         Ok(close_row(rows, from, held, RowKind::Variant))
     }
 
@@ -296,11 +271,7 @@ impl Reading<'_> {
         ensures reads { ReadsBy self.now left 0 payload_types from rows.old result rows.new }
         ensures arrives { Arrives self.now result }
     {
-        let mut place = from;
-        while self.begins_payload_type(place) {
-            place = self.read_type(rows, place, left)?;
-        }
-        Ok(place)
+        self.repeated(rows, from, left, Self::begins_payload_type, Self::read_type)
     }
 
     // A program: as many declarations as there are, below its row.
@@ -309,12 +280,11 @@ impl Reading<'_> {
             self.now.scope left rows.old (step_of result) rows.new }
     {
         let from = Place { token: 0, row: 0 };
-        if left == 0 {
-            return Err(from.too_deep());
-        }
+        let below = from.below(left)?;
         let mut place = self.reserve(from);
-        while self.begins_declaration(place) {
-            place = self.declaration(rows, place, left - 1)?;
+        // A loop of its own: below a program's row there is a row more than `repeated` allows for.
+        while grammar::declaration_form(self.kind(place)).is_some() {
+            place = self.declaration(rows, place, below)?;
         }
         Ok(close_row(rows, from, place, RowKind::Program))
     }

@@ -4,8 +4,10 @@
 
 mod declarations;
 mod expressions;
+mod presence;
 mod questions;
 mod reading;
+mod repeated;
 mod statements;
 mod steps;
 mod types;

@@ -1,8 +1,10 @@
 // The small steps that the readers are made of.
-ghost use Rattle.std.specs.Prelude.{◌≡◌, ◌<◌, eqb, Err};
+ghost use Rattle.std.specs.Prelude.{◌≡◌, ◌<◌, ◌+◌, ℕ, [], ◌∷◌, eqb, Err, IfErr, IfOk};
+ghost use Rattle.lexer.specs.Tests.{among};
 ghost use Rattle.lexer.specs.internal.TokenRows.{kind_at};
 ghost use Rattle.lexer.specs.internal.KindNumbers.{kind_number};
 ghost use Rattle.lexer.specs.Refusals.{refusal_number};
+ghost use Rattle.lexer.specs.declared.refusals.Refusal.{Refusal};
 ghost use Rattle.tree.specs.internal.RowKindNumbers.{row_kind_number};
 ghost use Rattle.parser.specs.internal.Steps.{step_at, step_of, Closable, next_kind, refused_at, taken_kind, taken_if, opened, row_left};
 ghost use Rattle.parser.specs.internal.Steps.{closed};
@@ -18,20 +20,18 @@ impl Place {
     pub(crate) fn no_program(self) -> Refusal
         ensures { step_of (Err result) ≡ refused_at (refusal_number "no program") (step_at self) }
     {
-        Refusal {
-            reason: Reason::NoProgram,
-            place: self.token,
-        }
+        Refusal::new(Reason::NoProgram, self.token)
     }
 
-    // A refusal at the next token, where no level is left.
-    pub(crate) fn too_deep(self) -> Refusal
-        ensures { step_of (Err result) ≡ refused_at (refusal_number "too deep") (step_at self) }
+    // The levels that are left below a row which begins here.
+    pub(crate) fn below(self, left: usize) -> Result<usize, Refusal>
+        ensures goes { IfOk result (λ (below : ℕ). left ≡ below + 1) }
+        ensures stops { IfErr result (λ refusal. (left ≡ 0) × (step_of (Err refusal) ≡ refused_at (refusal_number "too deep") (step_at self))) }
     {
-        Refusal {
-            reason: Reason::TooDeep,
-            place: self.token,
+        if left == 0 {
+            return Err(Refusal::new(Reason::TooDeep, self.token));
         }
+        Ok(left - 1)
     }
 }
 
@@ -55,6 +55,13 @@ impl Reading<'_> {
         ensures { result ≡ eqb (next_kind self.now.tokens.now (step_at from)) (kind_number kind) }
     {
         self.kind(from) == kind.number()
+    }
+
+    // Whether the next token is of one of these two kinds.
+    pub(crate) fn next_is_either(&self, from: Place, a: TokenKind, b: TokenKind) -> bool
+        ensures { result ≡ among (kind_number a ∷ kind_number b ∷ []) (next_kind self.now.tokens.now (step_at from)) }
+    {
+        self.next_is(from, a) || self.next_is(from, b)
     }
 
     // Takes a token of this kind.

@@ -45,31 +45,24 @@ impl Words {
 }
 
 impl Reading<'_> {
-    // Where the words from a token on end.
-    fn words_end(&self, from: usize, words: Words) -> usize
-        ensures { WordsEnd (with_keywords words) self.now.tokens.now from result }
-    {
-        let mut end = from;
-        while words.has(lexer::kind_at(self.tokens, end)) {
-            end += 1;
-        }
-        end
-    }
-
     // Rule 2: whether a `[` comes next from which words run up to a `]`.
     fn opens_list(&self, from: Place, words: Words) -> bool
+        requires { Stands self.now 0 from }
         ensures { AnswersKinds (query (pick (with_keywords words) opens_words opens_names))
             self.now.tokens.now (step_at from) result }
     {
         if self.next_is(from, TokenKind::LeftBracket) {
-            let first = from.token + 1;
-            let end = self.words_end(first, words);
-            return end != first && self.stands(end, TokenKind::RightBracket);
+            let first = Place {
+                token: from.token + 1,
+                row: from.row,
+            };
+            let end = self.more_words(first, words);
+            return end.token != first.token && self.next_is(end, TokenKind::RightBracket);
         }
         false
     }
 
-    // Takes a word.
+    // Takes a word. This and `take` differ in their test alone: one that were told the test would have to ask that no end of tokens passes it.
     pub(crate) fn take_word(&self, from: Place, words: Words) -> Result<Place, Refusal>
         requires { Stands self.now 0 from }
         ensures answer { step_of result ≡ taken_word self.now.tokens.now (with_keywords words) (step_at from) }
@@ -84,11 +77,12 @@ impl Reading<'_> {
         Err(from.no_program())
     }
 
-    // As many words as there are.
+    // As many words as there are. A `for` would need a second way out, at the end of the tokens, where there is no word anyway.
     pub(crate) fn more_words(&self, from: Place, words: Words) -> Place
         requires { Stands self.now 0 from }
         ensures reads { ReadsNoRows self.now.tokens.now 0 (pick (with_keywords words) more_words more_names)
             (step_at from) (step_at result) }
+        ensures ends { WordsEnd (with_keywords words) self.now.tokens.now from.token result.token }
         ensures stands { Stands self.now 0 result }
     {
         let mut place = from;
@@ -113,9 +107,7 @@ impl Reading<'_> {
             from rows.old result rows.new }
         ensures arrives { Arrives self.now result }
     {
-        if left == 0 {
-            return Err(from.too_deep());
-        }
+        let below = from.below(left)?;
         let opened = self.open(from);
         let first = self.take_word(opened, words)?;
         let listed = self.more_words(first, words);

@@ -4,7 +4,7 @@ ghost use Rattle.nurl.specs.Texts.{overwritten};
 ghost use Rattle.replies.specs.Desk.{desk_result, desk_text};
 
 use answer::Answer;
-use lexer::Reason;
+use lexer::{Reason, Refusal};
 
 // The most bytes that a script may have; one more and it is refused 1.
 const SCRIPT_LIMIT: usize = 65535;
@@ -25,7 +25,7 @@ fn answer(script: &[u8], tokens: &mut [u32], rows: &mut [u32]) -> Answer
     ensures tree { rows.new ≡ (desk_result script.now tokens.old rows.old).rows }
 {
     if SCRIPT_LIMIT < script.len() {
-        return Answer::Refused(Reason::LongSource.number(), 0);
+        return Refusal::new(Reason::LongSource, 0).into();
     }
     nurl::read(script, b"", tokens, rows)
 }

@@ -10,7 +10,8 @@ use lexer::rows;
 // How many numbers a row has.
 pub const WIDTH: usize = 4;
 
-// The numbers of a row: its kind, the first token that it covers, how many it covers, and how many rows its subtree has with itself.
+// The numbers of a row, as C lends a table of numbers: its kind, the first token that it covers, how many it covers, and how many rows its
+// subtree has with itself.
 #[derive(Clone, Copy)]
 pub struct TreeRow {
     pub kind: u32,

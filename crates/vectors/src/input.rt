@@ -96,8 +96,8 @@ fn number(text: &[u8]) -> Option<(usize, &[u8])>
     None
 }
 
-// Reads until the buffer is full or the input ends, and answers how many bytes that is. A call that fails is an error. Each call brings as
-// many bytes as it likes, so no `for` counts the calls.
+// Reads until the buffer is full or the input ends, and answers how many bytes that is. Each call brings as many bytes as it likes, so no `for`
+// counts the calls. Any call that fails is an error, where std's `io::copy` and `replies::read_script` try an interrupted one again.
 pub(crate) fn read_full<R: Read>(input: &mut R, buffer: &mut [u8]) -> io::Result<usize>
     ensures { ReadsAtMost result buffer.new }
 {

@@ -15,11 +15,11 @@ abbrev pub both : Bool → Bool → Bool
 both true b = b
 both false b = false
 
-both_left : (a b : Bool) → T (both a b) → T a
+pub both_left : (a b : Bool) → T (both a b) → T a
 both_left true b t = tt
 both_left false b t = t
 
-both_right : (a b : Bool) → T (both a b) → T b
+pub both_right : (a b : Bool) → T (both a b) → T b
 both_right true b t = t
 both_right false b t = absurd t
 

@@ -1,158 +1,127 @@
--- What the entry of a byte tells of the byte, each by one computed test over all bytes; which lexeme begins with it; and how far the
--- runs go that are told by entries. Assumes nothing.
+-- What the entry of a byte tells: of the byte, of the words that go on over it, and of the lexeme that begins with it. Assumes nothing.
 use Prim.Native.Char.{code}
-use Prim.Native.Nat.{ℕ, suc, ◌+◌, ◌-◌, ◌<◌, ◌≤◌}
+use Prim.Native.Nat.{ℕ, zero, suc, ◌+◌, ◌<◌, ◌≤◌}
 use mathlib.Core.Path.{◌≡◌, refl, sym, ◌∙◌}
-use mathlib.Core.Bool.{Bool, true, false, not}
+use mathlib.Core.Logic.{◌⊎◌, inl, inr}
+use mathlib.Core.Bool.{Bool, true, false}
 use mathlib.Core.List.{List, [], ◌∷◌}
+use native.Mathlib.Nat.{add-zero, zero-add, add-suc, suc-add}
 use native.Mathlib.Omega.{arith}
-use lib.Dec.{T, eqb, leb, ltb}
-use lib.ListN.{length, drop, get_or}
-use lib.Seq.{get_or-drop}
-use borrow.Author.Tests.{le-leb, lt-leb, le-ltb, lt-ltb, eqb-true, eqb-false, eq-eqb, leb-true, ltb-true}
-use Rattle.lexer.specs.Tests.{and, or, pick, between, among}
-use Rattle.lexer.specs.Bytes.{is_digit, is_letter, is_space, is_word_byte, run}
+use lib.Dec.{T, eqb}
+use lib.ListN.{length, drop, get_or, get_or-eq_default}
+use borrow.Author.Tests.{eqb-true, eq-eqb}
+use Rattle.lexer.specs.Tests.{and, or}
+use Rattle.lexer.specs.Bytes.{is_digit, is_letter, is_space, is_word_byte}
 use Rattle.lexer.specs.Editions.{Edition, edition17}
 use Rattle.lexer.specs.Lexemes.{Lexeme, Token, BadByte, spaces, comment, word, unsigned_number, number, text, mark, or_else, lexeme}
 use Rattle.lexer.specs.internal.Kinds.{slash}
-use Rattle.lexer.specs.Spellings.{Spelling, same, kind_of, reserved, spelled_marks}
-use Rattle.lexer.specs.Words.{word_length, or_ident, word_kind}
-use Rattle.lexer.specs.Numbers.{digits}
+use Rattle.lexer.specs.Spellings.{Spelling, same, kind_of, spelled_marks}
+use Rattle.lexer.specs.Words.{word_kind}
 use Rattle.lexer.specs.internal.Leaves.{byte_class}
-use Rattle.lexer.specs.internal.Entries.{other_entry, slash_entry, backtick_entry, longer_entry, space_entry, minus_entry, digit_entry}
-use Rattle.lexer.specs.internal.Entries.{letter_entry, last_entry, mark_entry, byte_entry, has_entry, Bounded}
-use Rattle.lexer.proofs.Laws.Tests.{and-false, and_left, and_right, or_left, or_right, not-true, between_range}
+use Rattle.lexer.specs.internal.KindNumbers.{kind_number}
+use Rattle.lexer.specs.internal.Entries.{begins_not, begins_none, alone_is, entry_class, says_kind, says}
+use Rattle.lexer.specs.declared.kinds.TokenKind.{TokenKind}
+use Rattle.lexer.specs.declared.entries.ByteEntry.{ByteEntry}
+use Rattle.lexer.proofs.Laws.Tests.{and-false, and_left, and_right, not-true}
 use Rattle.lexer.proofs.Laws.Editions.{kind17, FitEdition}
-use Rattle.lexer.proofs.Laws.Computed.{all}
-use Rattle.lexer.proofs.Laws.Classes.{agree, same_test, class_minus, class_slash, class_backtick}
+use Rattle.lexer.proofs.Laws.Computed.{both, both_left, both_right}
+use Rattle.lexer.proofs.Laws.Classes.{class_digit, class_letter, class_space, class_minus, class_slash, class_backtick}
 use Rattle.lexer.proofs.Laws.Fronts.{front_one}
-use Rattle.lexer.proofs.Laws.Marks.{mark_found, one_enough}
+use Rattle.lexer.proofs.Laws.KindNumbers.{some_kind}
+use Rattle.lexer.proofs.Laws.Marks.{mark_found, one_enough, no_zero_second, two_found, two_lost, two_enough_at}
 use Rattle.lexer.proofs.Laws.Lexemes.{lexeme_letter, lexeme_space, lexeme_digit, lexeme-minus, lexeme-slash, lexeme_backtick}
 use Rattle.lexer.proofs.Laws.Lexemes.{lexeme-mark, string_first, slash-mark}
-use Rattle.lexer.proofs.Laws.Runs.{run_goes_on, run_narrow, run_same}
-use Rattle.lexer.proofs.Laws.Words.{word_letter}
 
--- an entry that is looked up, between two entries or not
-module _ (low high b entry : ℕ) (looked : entry ≡ byte_entry b) where
-  pub entry_within : low ≤ entry → entry ≤ high → has_entry low high b ≡ true
-  unfolding between and
-  entry_within above below = rw (← looked, le-leb low entry above, le-leb entry high below)
+-- what an entry says of a byte, part by part
+module _ (entry : ByteEntry) (b : ℕ) (said : says entry b ≡ true) where
+  pub class_said : byte_class b ≡ entry_class entry
+  unfolding says
+  class_said = eqb-true _ _ (and_left _ _ said)
 
-  pub entry-below : entry < low → has_entry low high b ≡ false
-  unfolding between and
-  entry-below below = rw (← looked, lt-leb low entry below)
+  kind_said : says_kind entry b ≡ true
+  unfolding says
+  kind_said = and_right (eqb (byte_class b) (entry_class entry)) _ said
 
-  pub entry-above : high < entry → has_entry low high b ≡ false
-  unfolding between
-  entry-above above = rw (← looked, lt-leb entry high above, and-false)
+-- whether each entry of a table is true of its byte, the first of which is a given one
+abbrev pub all_said : ℕ → List ByteEntry → Bool
+all_said b [] = true
+all_said b (entry ∷ entries) = both (says entry b) (all_said (suc b) entries)
 
--- .. one entry or another
-module _ (n b entry : ℕ) (looked : entry ≡ byte_entry b) where
-  pub entry-same : entry ≡ n → has_entry n n b ≡ true
-  entry-same same = entry_within n n b entry looked (omega arith) (omega arith)
+true_told : (t : Bool) → T t → t ≡ true
+true_told true told = refl
+true_told false told = absurd told
 
-  pub entry_other : (entry ≡ n → ⊥) → has_entry n n b ≡ false
-  entry_other other = by (has_entry n n b) refl
-    where
-      by : (t : Bool) → has_entry n n b ≡ t → has_entry n n b ≡ false
-      by true h = let range = between_range n n (byte_entry b) h in absurd (other (omega arith))
-      by false h = h
+-- .. and so of each byte, once that is computed
+said_from : (table : List ByteEntry) (first k : ℕ) (default : ByteEntry) → T (all_said first table) → k < length table
+    → says (get_or table k default) (first + k) ≡ true
+said_from [] first k default told below = absurd (omega arith)
+said_from (entry ∷ table) first zero default told below = rw add-zero (true_told _ (both_left _ (all_said (suc first) table) told))
+said_from (entry ∷ table) first (suc k) default told below =
+    rw (add-suc, ← suc-add) (said_from table (suc first) k default (both_right (says entry first) _ told) (omega arith))
 
--- `byte_entry`, opened down to its parts, with the tests that it is held against: whoever computes entries unfolds this one name
-unfoldable opened : ℕ → ℕ
-unfolding and or between among agree is_digit is_letter is_space is_word_byte same kind_of reserved spelled_marks or_ident word_kind
-    byte_class mark_entry byte_entry
-opened b = byte_entry b
+pub said_at : (table : List ByteEntry) → T (all_said 0 table) → (b : ℕ) (default : ByteEntry) → b < length table → says (get_or table b default) b ≡ true
+said_at table told b default below = rw zero-add at (said_from table 0 b default told below)
 
--- a test that passes at every byte
-passes : (f : ℕ → Bool) → T (all (λ b. agree (f b) true) 256) → (b : ℕ) → b < 256 → f b ≡ true
-passes f = same_test f (λ b. true)
+-- whether a word goes on over a byte, by its class
+by_class : (b class : ℕ) → b < 256 → byte_class b ≡ class → is_word_byte b ≡ or (eqb class 1) (eqb class 0)
+unfolding is_word_byte
+by_class b class byte is = rw (← class_letter b byte, ← class_digit b byte, is)
 
--- some entries against one test
-entry_test : (low high : ℕ) (f : ℕ → Bool) → T (all (λ b. agree (has_entry low high b) (f b)) 256)
-    → (b : ℕ) → b < 256 → has_entry low high b ≡ f b
-entry_test low high = same_test (has_entry low high)
+-- .. and by its entry
+pub goes_on : (entry : ByteEntry) (b : ℕ) → b < 256 → says entry b ≡ true
+    → ((alone : TokenKind) × (entry ≡ ByteEntry.Letter alone)) ⊎ (entry ≡ ByteEntry.Digit) → true ≡ is_word_byte b
+unfolding or
+goes_on entry b byte said (inl (alone, is)) = sym (by_class b 1 byte (rw is at (class_said _ b said)))
+goes_on entry b byte said (inr is) = sym (by_class b 0 byte (rw is at (class_said _ b said)))
 
-entry_space : (b : ℕ) → b < 256 → has_entry space_entry space_entry b ≡ is_space b
-unfolding opened
-entry_space = entry_test space_entry space_entry is_space tt
-
-entry_digit : (b : ℕ) → b < 256 → has_entry digit_entry digit_entry b ≡ is_digit b
-unfolding opened
-entry_digit = entry_test digit_entry digit_entry is_digit tt
-
-entry_letter : (b : ℕ) → b < 256 → has_entry letter_entry last_entry b ≡ is_letter b
-unfolding opened
-entry_letter = entry_test letter_entry last_entry is_letter tt
-
-pub entry-word : (b : ℕ) → b < 256 → has_entry digit_entry last_entry b ≡ is_word_byte b
-unfolding opened
-entry-word = entry_test digit_entry last_entry is_word_byte tt
-
--- no entry is higher than the last
-pub entry_last : (b : ℕ) → b < 256 → byte_entry b ≤ last_entry
-unfolding opened
-entry_last b h = leb-true _ _ (passes (λ b. leb (byte_entry b) last_entry) tt b h)
-
--- the class of a byte by its entry
-unfoldable entry_class : ℕ → ℕ
-entry_class n =
-    pick (leb letter_entry n) 1
-    (pick (ltb n other_entry) 6
-    (pick (eqb n digit_entry) 0
-    (pick (eqb n minus_entry) 3
-    (pick (eqb n space_entry) 2
-    (pick (eqb n backtick_entry) 5
-    (pick (eqb n slash_entry) 4 6))))))
-
-entry_class_lem : (b : ℕ) → b < 256 → byte_class b ≡ entry_class (byte_entry b)
-unfolding opened entry_class
-entry_class_lem b h = eqb-true _ _ (passes (λ b. eqb (byte_class b) (entry_class (byte_entry b))) tt b h)
+pub goes_not_on : (entry : ByteEntry) (b : ℕ) → b < 256 → says entry b ≡ true → ((alone : TokenKind) → entry ≡ ByteEntry.Letter alone → ⊥)
+    → (entry ≡ ByteEntry.Digit → ⊥) → false ≡ is_word_byte b
+unfolding or
+goes_not_on (ByteEntry.Letter alone) b byte said letter digit = absurd (letter alone refl)
+goes_not_on ByteEntry.Digit b byte said letter digit = absurd (digit refl)
+goes_not_on (ByteEntry.Mark kind) b byte said letter digit = sym (by_class b 6 byte (class_said _ b said))
+goes_not_on (ByteEntry.Longer alone) b byte said letter digit = sym (by_class b 6 byte (class_said _ b said))
+goes_not_on ByteEntry.Other b byte said letter digit = sym (by_class b 6 byte (class_said _ b said))
+goes_not_on ByteEntry.Slash b byte said letter digit = sym (by_class b 4 byte (class_said _ b said))
+goes_not_on ByteEntry.Backtick b byte said letter digit = sym (by_class b 5 byte (class_said _ b said))
+goes_not_on ByteEntry.Space b byte said letter digit = sym (by_class b 2 byte (class_said _ b said))
+goes_not_on ByteEntry.Minus b byte said letter digit = sym (by_class b 3 byte (class_said _ b said))
 
 -- what a byte is, by its entry
 module _ (b : ℕ) (byte : b < 256) where
-  class_told : (n : ℕ) → byte_entry b ≡ n → byte_class b ≡ entry_class n
-  class_told n h = rw h at (entry_class_lem b byte)
+  pub letter_there : (alone : TokenKind) → says (ByteEntry.Letter alone) b ≡ true → is_letter b ≡ true
+  letter_there alone said = sym (class_letter b byte) ∙ eq-eqb _ _ (class_said _ b said)
 
-  pub letter_there : letter_entry ≤ byte_entry b → is_letter b ≡ true
-  letter_there h = sym (entry_letter b byte) ∙ entry_within letter_entry last_entry b _ refl h (entry_last b byte)
+  pub digit_there : says ByteEntry.Digit b ≡ true → is_digit b ≡ true
+  digit_there said = sym (class_digit b byte) ∙ eq-eqb _ _ (class_said _ b said)
 
-  pub letter_kind : letter_entry ≤ byte_entry b → word_kind (b ∷ []) ≡ byte_entry b - letter_entry
-  unfolding byte_entry
-  letter_kind h =
-      let e : byte_entry b ≡ letter_entry + word_kind (b ∷ []) = rw (letter_there h) in
-      omega arith
+  pub space_there : says ByteEntry.Space b ≡ true → is_space b ≡ true
+  space_there said = sym (class_space b byte) ∙ eq-eqb _ _ (class_said _ b said)
 
-  pub space_there : byte_entry b ≡ space_entry → is_space b ≡ true
-  unfolding between
-  space_there h = sym (entry_space b byte) ∙ rw h
+  pub minus_there : says ByteEntry.Minus b ≡ true → b ≡ code "-"
+  minus_there said = eqb-true _ _ (sym (class_minus b byte) ∙ eq-eqb _ _ (class_said _ b said))
 
-  pub digit_there : byte_entry b ≡ digit_entry → is_digit b ≡ true
-  unfolding between
-  digit_there h = sym (entry_digit b byte) ∙ rw h
+  pub slash_there : says ByteEntry.Slash b ≡ true → b ≡ code "/"
+  slash_there said = eqb-true _ _ (sym (class_slash b byte) ∙ eq-eqb _ _ (class_said _ b said))
 
-  pub minus_there : byte_entry b ≡ minus_entry → b ≡ code "-"
-  unfolding entry_class
-  minus_there h = eqb-true _ _ (sym (class_minus b byte) ∙ eq-eqb _ _ (class_told minus_entry h))
+  pub backtick_there : says ByteEntry.Backtick b ≡ true → b ≡ code "`"
+  backtick_there said = eqb-true _ _ (sym (class_backtick b byte) ∙ eq-eqb _ _ (class_said _ b said))
 
-  pub slash_there : byte_entry b ≡ slash_entry → b ≡ code "/"
-  unfolding entry_class
-  slash_there h = eqb-true _ _ (sym (class_slash b byte) ∙ eq-eqb _ _ (class_told slash_entry h))
+-- .. and its kind alone
+pub letter_kind : (b : ℕ) (alone : TokenKind) → says (ByteEntry.Letter alone) b ≡ true → word_kind (b ∷ []) ≡ kind_number alone
+unfolding says_kind
+letter_kind b alone said = eqb-true _ _ (kind_said (ByteEntry.Letter alone) b said)
 
-  pub backtick_there : byte_entry b ≡ backtick_entry → b ≡ code "`"
-  unfolding entry_class
-  backtick_there h = eqb-true _ _ (sym (class_backtick b byte) ∙ eq-eqb _ _ (class_told backtick_entry h))
+pub longer_kind : (b : ℕ) (alone : TokenKind) → says (ByteEntry.Longer alone) b ≡ true → kind17 (b ∷ []) ≡ kind_number alone
+unfolding says_kind
+longer_kind b alone said = eqb-true _ _ (kind_said (ByteEntry.Longer alone) b said)
 
--- whether no spelling of two bytes or more begins with a byte
-unfoldable begins_not : ℕ → List ℕ → Bool
-begins_not b [] = true
-begins_not b (a ∷ []) = true
-begins_not b (a ∷ c ∷ t) = not (eqb b a)
+-- a byte that is a mark does not begin an arrow
+no_arrow : (b : ℕ) (kind : TokenKind) → kind17 (b ∷ []) ≡ kind_number kind → b ≡ 0xE2 → ⊥
+unfolding kind_of same spelled_marks and
+no_arrow b kind is e = some_kind kind (sym (rw e at is))
 
-unfoldable begins_none : ℕ → List Spelling → Bool
-begins_none b [] = true
-begins_none b (m ∷ ms) = and (begins_not b m.text) (begins_none b ms)
-
+-- a byte with which no longer mark begins is no mark with any byte after it
 module _ (b c : ℕ) where
   other_spelling : (w : List ℕ) → begins_not b w ≡ true → same w (b ∷ c ∷ []) ≡ false
   unfolding begins_not same and
@@ -165,147 +134,76 @@ module _ (b c : ℕ) where
   none_longer [] h = refl
   none_longer (m ∷ ms) h = rw (other_spelling m.text (and_left _ _ h)) (none_longer ms (and_right _ _ h))
 
--- a byte that is a mark of some kind, and does not begin an arrow
-pub record MarkTold (b kind : ℕ) : Type 0 where
-  pub is : kind17 (b ∷ []) ≡ kind
-  pub some : kind ≡ 0 → ⊥
-  pub no_arrow : b ≡ 0xE2 → ⊥
-
--- .. as a test
-is_mark : ℕ → ℕ → Bool
-is_mark b kind = and (and (eqb (kind17 (b ∷ [])) kind) (ltb 0 kind)) (not (eqb b 0xE2))
-
-mark_told : (b kind : ℕ) → is_mark b kind ≡ true → MarkTold b kind
-unfolding is_mark
-mark_told b kind told =
-    let kinds = and_left _ _ told in
-    let some = ltb-true 0 kind (and_right _ _ kinds) in
-    record {
-      is = eqb-true _ _ (and_left _ _ kinds);
-      some = omega arith;
-      no_arrow = eqb-false _ _ (not-true _ (and_right (and (eqb (kind17 (b ∷ [])) kind) (ltb 0 kind)) _ told));
-    }
-
-module _ (b : ℕ) (byte : b < 256) where
-  -- a byte with an entry below `longer_entry`: no longer mark begins with it
-  alone_tests : byte_entry b < longer_entry → and (is_mark b (byte_entry b)) (begins_none b edition17.marks) ≡ true
-  unfolding opened is_mark begins_not begins_none
-  alone_tests below =
-      let test : ℕ → Bool = λ b. pick (ltb (byte_entry b) longer_entry) (and (is_mark b (byte_entry b)) (begins_none b edition17.marks)) true in
-      rw (lt-ltb (byte_entry b) longer_entry below) at (passes test tt b byte)
-
-  -- .. and with one from there up to `other_entry`
-  pub longer_told : longer_entry ≤ byte_entry b → byte_entry b < other_entry → MarkTold b (byte_entry b - longer_entry)
-  unfolding opened is_mark
-  longer_told above below =
-      let test : ℕ → Bool = λ b. or (ltb (byte_entry b) longer_entry) (or (leb other_entry (byte_entry b)) (is_mark b (byte_entry b - longer_entry))) in
-      mark_told b _ (rw (le-ltb _ _ above, lt-leb _ _ below) at (passes test tt b byte))
-
 -- the lexeme at a place, by the entry of the byte there
 module _ (e : Edition) (s : List ℕ) (at : ℕ) (inside : at < length s) (byte : get_or s at 0 < 256) where
   here : (f : List ℕ → Lexeme) → lexeme e (get_or s at 0 ∷ drop (at + 1) s) ≡ f (get_or s at 0 ∷ drop (at + 1) s)
       → lexeme e (drop at s) ≡ f (drop at s)
   here f h = rw (front_one s at inside) h
 
-  marked : (n : ℕ) → byte_entry (get_or s at 0) ≡ n → entry_class n ≡ 6 → lexeme e (drop at s) ≡ mark e (drop at s)
-  marked n h class =
-      let is = class_told _ byte n h ∙ class in
+  marked : (entry : ByteEntry) → says entry (get_or s at 0) ≡ true → entry_class entry ≡ 6 → lexeme e (drop at s) ≡ mark e (drop at s)
+  marked entry said class =
+      let is = class_said entry _ said ∙ class in
       let not : (k : ℕ) → (k ≡ 6 → ⊥) → byte_class (get_or s at 0) ≡ k → ⊥ = λ k other q. other (sym q ∙ is) in
       here (mark e) (lexeme-mark e _ _ byte (not 0 (λ q. omega arith)) (not 1 (λ q. omega arith)) (not 2 (λ q. omega arith))
       (not 3 (λ q. omega arith)) (not 4 (λ q. omega arith)) (not 5 (λ q. omega arith)))
 
-  pub letter_lexeme : letter_entry ≤ byte_entry (get_or s at 0) → lexeme e (drop at s) ≡ word (drop at s)
-  unfolding entry_class
-  letter_lexeme h = here word (lexeme_letter e _ _ byte (entry_class_lem _ byte ∙ rw (le-leb letter_entry _ h)))
+  pub letter_lexeme : (alone : TokenKind) → says (ByteEntry.Letter alone) (get_or s at 0) ≡ true → lexeme e (drop at s) ≡ word (drop at s)
+  letter_lexeme alone said = here word (lexeme_letter e _ _ byte (class_said _ _ said))
 
-  pub space_lexeme : byte_entry (get_or s at 0) ≡ space_entry → lexeme e (drop at s) ≡ spaces (drop at s)
-  unfolding entry_class
-  space_lexeme h = here spaces (lexeme_space e _ _ byte (class_told _ byte space_entry h))
+  pub space_lexeme : says ByteEntry.Space (get_or s at 0) ≡ true → lexeme e (drop at s) ≡ spaces (drop at s)
+  space_lexeme said = here spaces (lexeme_space e _ _ byte (class_said _ _ said))
 
-  pub digit_lexeme : byte_entry (get_or s at 0) ≡ digit_entry → lexeme e (drop at s) ≡ unsigned_number (drop at s)
-  unfolding entry_class
-  digit_lexeme h = here unsigned_number (lexeme_digit e _ _ byte (class_told _ byte digit_entry h))
+  pub digit_lexeme : says ByteEntry.Digit (get_or s at 0) ≡ true → lexeme e (drop at s) ≡ unsigned_number (drop at s)
+  digit_lexeme said = here unsigned_number (lexeme_digit e _ _ byte (class_said _ _ said))
 
-  pub minus_lexeme : byte_entry (get_or s at 0) ≡ minus_entry → lexeme e (drop at s) ≡ or_else (number e (drop at s)) (mark e (drop at s))
-  unfolding entry_class
-  minus_lexeme h = here (λ s. or_else (number e s) (mark e s)) (lexeme-minus e _ _ byte (class_told _ byte minus_entry h))
+  pub minus_lexeme : says ByteEntry.Minus (get_or s at 0) ≡ true → lexeme e (drop at s) ≡ or_else (number e (drop at s)) (mark e (drop at s))
+  minus_lexeme said = here (λ s. or_else (number e s) (mark e s)) (lexeme-minus e _ _ byte (class_said _ _ said))
 
-  pub backtick_lexeme : byte_entry (get_or s at 0) ≡ backtick_entry → lexeme e (drop at s) ≡ text (drop at s)
-  unfolding entry_class
-  backtick_lexeme h =
-      here (λ s. or_else (text s) (mark e s)) (lexeme_backtick e _ _ byte (class_told _ byte backtick_entry h))
-      ∙ string_first s at inside (backtick_there _ byte h) _
+  pub backtick_lexeme : says ByteEntry.Backtick (get_or s at 0) ≡ true → lexeme e (drop at s) ≡ text (drop at s)
+  backtick_lexeme said =
+      here (λ s. or_else (text s) (mark e s)) (lexeme_backtick e _ _ byte (class_said _ _ said))
+      ∙ string_first s at inside (backtick_there _ byte said) _
 
-  pub longer-lexeme : byte_entry (get_or s at 0) < other_entry → lexeme e (drop at s) ≡ mark e (drop at s)
-  unfolding entry_class
-  longer-lexeme h =
-      let n = byte_entry (get_or s at 0) in
-      marked n refl (rw (lt-leb letter_entry n (omega arith), lt-ltb n other_entry h))
+  pub longer-lexeme : (alone : TokenKind) → says (ByteEntry.Longer alone) (get_or s at 0) ≡ true → lexeme e (drop at s) ≡ mark e (drop at s)
+  longer-lexeme alone said = marked (ByteEntry.Longer alone) said refl
 
-  pub other_lexeme : byte_entry (get_or s at 0) ≡ other_entry → lexeme e (drop at s) ≡ mark e (drop at s)
-  unfolding entry_class
-  other_lexeme h = marked other_entry h refl
+  pub other_lexeme : says ByteEntry.Other (get_or s at 0) ≡ true → lexeme e (drop at s) ≡ mark e (drop at s)
+  other_lexeme said = marked ByteEntry.Other said refl
 
   -- .. where the edition is fit
   module _ (fit : FitEdition e) where
-    pub slash-lexeme : byte_entry (get_or s at 0) ≡ slash_entry → lexeme e (drop at s) ≡ or_else (comment (drop at s)) (Token slash 1)
-    unfolding entry_class
-    slash-lexeme h =
-        here (λ s. or_else (comment s) (mark e s)) (lexeme-slash e _ _ byte (class_told _ byte slash_entry h))
-        ∙ rw (slash-mark s at inside (slash_there _ byte h) e fit)
+    pub slash-lexeme : says ByteEntry.Slash (get_or s at 0) ≡ true → lexeme e (drop at s) ≡ or_else (comment (drop at s)) (Token slash 1)
+    slash-lexeme said =
+        here (λ s. or_else (comment s) (mark e s)) (lexeme-slash e _ _ byte (class_said _ _ said))
+        ∙ rw (slash-mark s at inside (slash_there _ byte said) e fit)
 
-    pub alone_lexeme : byte_entry (get_or s at 0) < longer_entry → lexeme e (drop at s) ≡ Token (byte_entry (get_or s at 0)) 1
-    alone_lexeme h =
-        let tests = alone_tests _ byte h in
-        let told = mark_told _ _ (and_left _ _ tests) in
-        let alone = and_right (is_mark (get_or s at 0) (byte_entry (get_or s at 0))) _ tests in
+    pub mark_lexeme : (kind : TokenKind) → says (ByteEntry.Mark kind) (get_or s at 0) ≡ true → lexeme e (drop at s) ≡ Token (kind_number kind) 1
+    unfolding says_kind
+    mark_lexeme kind said =
+        let kinds = kind_said (ByteEntry.Mark kind) _ said in
+        let is : kind17 (get_or s at 0 ∷ []) ≡ kind_number kind = eqb-true _ _ (and_left _ _ kinds) in
+        let alone = and_right (alone_is (get_or s at 0) (kind_number kind)) _ kinds in
         let longer : (c : ℕ) → kind17 (get_or s at 0 ∷ c ∷ []) ≡ 0 = λ c. none_longer _ c edition17.marks alone in
-        longer-lexeme (omega arith)
-        ∙ rw (front_one s at inside, one_enough e fit _ (drop (at + 1) s) told.no_arrow longer, told.is) (mark_found _ 1 BadByte told.some)
+        marked (ByteEntry.Mark kind) said refl
+        ∙ rw (front_one s at inside, one_enough e fit _ (drop (at + 1) s) (no_arrow _ kind is) longer, is)
+        (mark_found _ 1 BadByte (some_kind kind))
 
--- a word goes on over letters and digits
-pub letter_on : (b : ℕ) → is_letter b ≡ true → is_word_byte b ≡ true
-unfolding is_word_byte
-letter_on b h = or_left (is_letter b) (is_digit b) h
+-- the mark at a place where a byte stands with which a longer one may begin
+module _ (e : Edition) (fit : FitEdition e) (s : List ℕ) (at : ℕ) where
+  -- the bytes there, the second 0 where there is none
+  abbrev pair : List ℕ
+  pair = get_or s at 0 ∷ get_or s (at + 1) 0 ∷ []
 
-pub digit_on : (b : ℕ) → is_digit b ≡ true → is_word_byte b ≡ true
-unfolding is_word_byte
-digit_on b h = or_right (is_letter b) (is_digit b) h
+  -- at the end no mark of two bytes begins
+  pub pair_past : length s ≤ at + 1 → kind_of e.marks pair ≡ 0
+  pair_past past = rw (get_or-eq_default s 0 past) (fit.two (get_or s at 0) 0 (no_zero_second (get_or s at 0)))
 
--- where it does, it is bounded from the next place on too
-pub bounded_next : (s : List ℕ) (at : ℕ) → Bounded s at → is_word_byte (get_or s at 0) ≡ true → Bounded s (at + 1)
-bounded_next s at bounded on = rw (run_goes_on is_word_byte s at (omega arith) on) at bounded
+  module _ (inside : at < length s) (alone : TokenKind) (is : kind17 (get_or s at 0 ∷ []) ≡ kind_number alone) where
+    -- a mark of one byte
+    pub mark_alone : kind_of e.marks pair ≡ 0 → Token (kind_number alone) 1 ≡ mark e (drop at s)
+    mark_alone lost =
+        rw (two_enough_at e fit s at inside (no_arrow _ alone is), two_lost e fit _ _ lost, is, mark_found (kind_number alone) 1 BadByte (some_kind alone))
 
--- the bytes of a source, each below 256
-module _ (s : List ℕ) (bytes : (i : ℕ) → get_or s i 0 < 256) where
-  -- a run by entries and by the test that they tell
-  run_by : (low high at : ℕ) (f : ℕ → Bool) → ((b : ℕ) → b < 256 → has_entry low high b ≡ f b)
-      → run (has_entry low high) (drop at s) ≡ run f (drop at s)
-  run_by low high at f agreeing = run_same (has_entry low high) f agreeing (drop at s) (λ i. rw get_or-drop (bytes (at + i)))
-
-  pub digits_by : (at : ℕ) → run (has_entry digit_entry digit_entry) (drop at s) ≡ digits (drop at s)
-  digits_by at = run_by digit_entry digit_entry at is_digit entry_digit
-
-  -- where the bytes of a word end before the bytes do, so do those that have their entries, and digits
-  module _ (at : ℕ) (bounded : Bounded s at) where
-    pub word-bounded : at + run (has_entry digit_entry last_entry) (drop at s) < length s
-    word-bounded = rw (run_by digit_entry last_entry at is_word_byte entry-word) bounded
-
-    pub digits-bounded : at + run (has_entry digit_entry digit_entry) (drop at s) < length s
-    digits-bounded =
-        let less = run_narrow is_digit is_word_byte digit_on (drop at s) in
-        rw (digits_by at) (omega arith)
-
-  -- a run by entries from the next place on, where its first byte stands
-  module _ (at : ℕ) (inside : at < length s) where
-    pub spaces_from : is_space (get_or s at 0) ≡ true
-        → at + 1 + run (has_entry space_entry space_entry) (drop (at + 1) s) ≡ at + run is_space (drop at s)
-    spaces_from h = rw (run_by space_entry space_entry (at + 1) is_space entry_space) (sym (run_goes_on is_space s at inside h))
-
-    pub digits_from : is_digit (get_or s at 0) ≡ true
-        → at + 1 + run (has_entry digit_entry digit_entry) (drop (at + 1) s) ≡ at + digits (drop at s)
-    digits_from h = rw (digits_by (at + 1)) (sym (run_goes_on is_digit s at inside h))
-
-    pub word_from : is_letter (get_or s at 0) ≡ true
-        → word_length (drop at s) ≡ suc (run (has_entry digit_entry last_entry) (drop (at + 1) s))
-    word_from h = rw (run_by digit_entry last_entry (at + 1) is_word_byte entry-word, front_one s at inside) (word_letter _ _ h)
+    -- .. and one of two
+    pub mark_pair : (kind_of e.marks pair ≡ 0 → ⊥) → Token (kind_of e.marks pair) 2 ≡ mark e (drop at s)
+    mark_pair found = rw (two_enough_at e fit s at inside (no_arrow _ alone is), two_found e fit _ _ found)

@@ -63,7 +63,7 @@ module _ (e : Edition) (fit : FitEdition e) where
   mark_nil = rw (fit.longest_three, kind_empty e.marks fit.spells)
 
   -- a byte with none after it
-  one_alone : (a : ℕ) → mark e (a ∷ []) ≡ mark_one a
+  pub one_alone : (a : ℕ) → mark e (a ∷ []) ≡ mark_one a
   unfolding mark mark_up_to
   one_alone a = rw (fit.longest_three, fit.one a, mark_again, mark_again)
 

@@ -7,7 +7,7 @@ use native.Mathlib.Omega.{arith}
 use native.Mathlib.Nat.{add-zero}
 use native.Mathlib.Numerals.{add-one}
 use lib.Dec.{eqb, ltb}
-use lib.ListN.{length, drop, get_or, length-append}
+use lib.ListN.{length, drop, get_or, length-append, length-drop}
 use lib.Seq.{sets}
 use borrow.Author.Tests.{eqb-true, ltb-true, ltb-false}
 use Rattle.lexer.specs.Tests.{and, or, pick}
@@ -20,7 +20,7 @@ use Rattle.lexer.specs.executable.Scans.{Scan, with_token, scan}
 use Rattle.lexer.specs.internal.Leaves.{blank, written}
 use Rattle.lexer.specs.internal.Tokenized.{ended_with, scanned, ended_by}
 use Rattle.lexer.proofs.Laws.Fronts.{front_one}
-use Rattle.lexer.proofs.Laws.Sizes.{spelled}
+use Rattle.lexer.proofs.Laws.Sizes.{spelled, of_token, of_skip, proper}
 use Rattle.lexer.proofs.Laws.Scans.{scan_from, scan_from_start, scan_end, scan_skip, scan_token, scan_bad, scan_open}
 use Rattle.lexer.proofs.Laws.Gaps.{space_passed}
 use Rattle.lexer.proofs.Laws.Packed.{Ends, ends_clean, ends_bad, ends_open}
@@ -49,6 +49,26 @@ module _ (s before : List ℕ) (met : List Token) (t : Token) where
 
   written-kept : written (kept s met before) (length met) (token_row s t) ≡ kept s (met ++ (t ∷ [])) before
   written-kept = rw (kept_room s met before) (written-kept_by (ltb (length met) (token_room before)) refl)
+
+-- so many bytes at a place are some, and inside
+pub record Reaches (s : List ℕ) (at n : ℕ) : Type 0 where
+  pub some : 0 < n
+  pub inside : at + n ≤ length s
+
+module _ (e : Edition) (good : spelled e.marks ≡ true) (s : List ℕ) (at n : ℕ) (inside : at ≤ length s) where
+  pub token_reaches : (k : ℕ) → AToken k n ≡ lexeme e (drop at s) → Reaches s at n
+  token_reaches k is =
+      let facts = of_token (rw (← is) at (proper e good (drop at s))) in
+      let within = facts.within in
+      let left = length-drop at s in
+      record { some = facts.some; inside = omega arith }
+
+  pub skip_reaches : Skipped n ≡ lexeme e (drop at s) → Reaches s at n
+  skip_reaches is =
+      let facts = of_skip (rw (← is) at (proper e good (drop at s))) in
+      let within = facts.1 in
+      let left = length-drop at s in
+      record { some = facts.0; inside = omega arith }
 
 module _ (e : Edition) (good : spelled e.marks ≡ true) (s before : List ℕ) where
   pub pass_start : Passed e s before before 0 0
@@ -102,7 +122,7 @@ module _ (e : Edition) (good : spelled e.marks ≡ true) (s before : List ℕ) w
         }
 
     -- a token
-    pub pass_token : (k n : ℕ) → 0 < n → at + n ≤ length s → lexeme e (drop at s) ≡ Lexeme.Token k n
+    pub pass_token : (k n : ℕ) → 0 < n → at + n ≤ length s → lexeme e (drop at s) ≡ AToken k n
         → (numbers : List ℕ) → numbers ≡ token_row s (record { kind = k; start = at; size = n })
         → Passed e s before (written after count numbers) (at + n) (count + 1)
     unfolding with_token

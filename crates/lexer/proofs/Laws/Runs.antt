@@ -1,7 +1,7 @@
 -- How far a class of bytes runs, at a place of a list. Assumes nothing.
 use Prim.Native.Nat.{ℕ, zero, suc, ◌+◌, ◌-◌, ◌≤◌, ◌<◌, zero-le, suc-le-suc}
 use mathlib.Core.Path.{◌≡◌, refl, ◌∙◌, sym, ap}
-use mathlib.Core.Bool.{Bool, true, false, cond, not, ◌||◌}
+use mathlib.Core.Bool.{Bool, true, false, not, ◌||◌}
 use mathlib.Core.List.{List, [], ◌∷◌}
 use lib.Dec.{eqb}
 use lib.ListN.{length, take, drop, get_or, length-drop, drop_of_length-le}
@@ -10,9 +10,8 @@ use native.Mathlib.Numerals.{add-one}
 use native.Mathlib.Omega.{arith}
 use native.Mathlib.Nat.{zero-add, add-zero, add-suc, suc-add, add_assoc}
 use borrow.Author.Tests.{eq-eqb, ne_eqb}
-use Rattle.std.specs.List.{prefix_len, list_any}
+use Rattle.std.specs.List.{list_any}
 use Rattle.std.proofs.lemmas.Bool.{false≢true}
-use Rattle.lexer.specs.Tests.{pick}
 use Rattle.lexer.specs.Bytes.{run}
 use Rattle.lexer.specs.internal.Leaves.{is_not, Goes}
 
@@ -28,16 +27,6 @@ pub run_stop : (p : ℕ → Bool) (b : ℕ) (s : List ℕ) → p b ≡ false →
 unfolding run
 run_stop p b s h = rw h
 
--- std counts the same
-pub run_prefix : (p : ℕ → Bool) (s : List ℕ) → prefix_len p s ≡ run p s
-unfolding run
-run_prefix p [] = refl
-run_prefix p (b ∷ s) = by (p b) (run_prefix p s)
-  where
-    by : (t : Bool) → prefix_len p s ≡ run p s → cond t (1 + prefix_len p s) 0 ≡ pick t (suc (run p s)) 0
-    by true h = ap (λ (n : ℕ). 1 + n) h ∙ (let e : 1 + run p s ≡ suc (run p s) = omega arith in e)
-    by false h = refl
-
 run_le_by : (p : ℕ → Bool) (b : ℕ) (s : List ℕ) (t : Bool) → p b ≡ t → run p s ≤ length s → run p (b ∷ s) ≤ suc (length s)
 run_le_by p b s true h below = rw (run_pass p b s h) (suc-le-suc below)
 run_le_by p b s false h below = rw (run_stop p b s h) zero-le
@@ -46,24 +35,7 @@ pub run_le : (p : ℕ → Bool) (s : List ℕ) → run p s ≤ length s
 run_le p [] = rw run_nil zero-le
 run_le p (b ∷ s) = run_le_by p b s (p b) refl (run_le p s)
 
--- a test that passes wherever another does runs at least as far
-module _ (p q : ℕ → Bool) (wider : (b : ℕ) → p b ≡ true → q b ≡ true) where
-  run_narrow_by : (b : ℕ) (s : List ℕ) (t : Bool) → p b ≡ t → run p s ≤ run q s → run p (b ∷ s) ≤ run q (b ∷ s)
-  run_narrow_by b s true h below = rw (run_pass p b s h, run_pass q b s (wider b h)) (suc-le-suc below)
-  run_narrow_by b s false h below = rw (run_stop p b s h) zero-le
-
-  pub run_narrow : (s : List ℕ) → run p s ≤ run q s
-  run_narrow [] = rw (run_nil p) zero-le
-  run_narrow (b ∷ s) = run_narrow_by b s (p b) refl (run_narrow s)
-
--- two tests that agree at every byte run equally far
-module _ (p q : ℕ → Bool) (agreeing : (b : ℕ) → b < 256 → p b ≡ q b) where
-  pub run_same : (s : List ℕ) → ((i : ℕ) → get_or s i 0 < 256) → run p s ≡ run q s
-  unfolding run
-  run_same [] bytes = refl
-  run_same (b ∷ s) bytes = rw (agreeing b (bytes 0), run_same s (λ i. bytes (suc i)))
-
--- the same from a place on
+-- a run from a place on
 module _ (p : ℕ → Bool) (s : List ℕ) (i : ℕ) where
   pub run_past : length s ≤ i → run p (drop i s) ≡ 0
   run_past h = rw (drop_of_length-le s h) (run_nil p)
@@ -102,10 +74,6 @@ module _ (p : ℕ → Bool) (s : List ℕ) (at i : ℕ) (so_far : Goes p s at i)
 
   pub follow_past : length s ≤ i → i ≡ at + run p (drop at s)
   follow_past h = sym (add-zero i) ∙ rw (run_past p s i h) at so_far
-
-  -- .. to a place that is the next one
-  pub follow_to : (j : ℕ) → j ≡ i + 1 → i < length s → p (get_or s i 0) ≡ true → Goes p s at j
-  follow_to j next h e = rw next (follow_on h e)
 
 -- a run up to a byte
 pub is_stop : (stop b : ℕ) → b ≡ stop → is_not stop b ≡ false

@@ -1,71 +1,55 @@
--- The table of bytes: its entries, what it holds, and the runs that are told by it.
-use Prim.Native.Char.{code}
-use Rattle.std.specs.Prelude.{ℕ, zero, suc, ◌+◌, ◌<◌, ◌≡◌, Bool, List, [], ◌∷◌, eqb, length, drop, get_or}
-use Rattle.lexer.specs.Tests.{pick, among, between}
-use Rattle.lexer.specs.Bytes.{is_digit, is_letter, is_space, is_word_byte, run}
-use Rattle.lexer.specs.Spellings.{kind_of}
+-- The table of bytes: what each entry says of its byte, and where words end.
+use Rattle.std.specs.Prelude.{ℕ, ◌+◌, ◌<◌, Bool, true, not, List, [], ◌∷◌, eqb, length, drop}
+use Rattle.lexer.specs.Tests.{and}
+use Rattle.lexer.specs.Bytes.{is_word_byte, run}
+use Rattle.lexer.specs.Spellings.{Spelling, kind_of}
 use Rattle.lexer.specs.Editions.{edition17}
 use Rattle.lexer.specs.Words.{word_kind}
+use Rattle.lexer.specs.internal.Leaves.{byte_class}
+use Rattle.lexer.specs.internal.KindNumbers.{kind_number}
+use Rattle.lexer.specs.declared.entries.ByteEntry.{ByteEntry}
 
--- A byte's entry says what a lexeme that begins with it is. Below `longer_entry` stands the kind of a mark with which no longer one begins;
--- from there on, with `longer_entry` added, that of a mark with which a longer one does.
-abbrev pub longer_entry : ℕ
-longer_entry = 64
+-- whether no spelling of two bytes or more begins with a byte
+unfoldable pub begins_not : ℕ → List ℕ → Bool
+begins_not b [] = true
+begins_not b (a ∷ []) = true
+begins_not b (a ∷ c ∷ t) = not (eqb b a)
 
--- an arrow, or nothing
-abbrev pub other_entry : ℕ
-other_entry = 122
+unfoldable pub begins_none : ℕ → List Spelling → Bool
+begins_none b [] = true
+begins_none b (m ∷ ms) = and (begins_not b m.text) (begins_none b ms)
 
--- a comment or a mark
-abbrev pub slash_entry : ℕ
-slash_entry = 123
+-- whether a byte alone is a mark of a kind
+abbrev pub alone_is : ℕ → ℕ → Bool
+alone_is b kind = eqb (kind_of edition17.marks (b ∷ [])) kind
 
-abbrev pub backtick_entry : ℕ
-backtick_entry = 124
+-- the class of the bytes that have an entry
+abbrev pub entry_class : ByteEntry → ℕ
+entry_class ByteEntry.Digit = 0
+entry_class (ByteEntry.Letter alone) = 1
+entry_class ByteEntry.Space = 2
+entry_class ByteEntry.Minus = 3
+entry_class ByteEntry.Slash = 4
+entry_class ByteEntry.Backtick = 5
+entry_class (ByteEntry.Mark kind) = 6
+entry_class (ByteEntry.Longer alone) = 6
+entry_class ByteEntry.Other = 6
 
-abbrev pub space_entry : ℕ
-space_entry = 125
+-- whether a byte alone has the kind that an entry has, and no longer mark begins with it where the entry says so
+unfoldable pub says_kind : ByteEntry → ℕ → Bool
+says_kind (ByteEntry.Letter alone) b = eqb (word_kind (b ∷ [])) (kind_number alone)
+says_kind (ByteEntry.Mark kind) b = and (alone_is b (kind_number kind)) (begins_none b edition17.marks)
+says_kind (ByteEntry.Longer alone) b = alone_is b (kind_number alone)
+says_kind ByteEntry.Digit b = true
+says_kind ByteEntry.Other b = true
+says_kind ByteEntry.Slash b = true
+says_kind ByteEntry.Backtick b = true
+says_kind ByteEntry.Space b = true
+says_kind ByteEntry.Minus b = true
 
--- a number or a mark
-abbrev pub minus_entry : ℕ
-minus_entry = 126
-
-abbrev pub digit_entry : ℕ
-digit_entry = 127
-
--- from here on a word, with the kind that the letter has alone added
-abbrev pub letter_entry : ℕ
-letter_entry = 128
-
-abbrev pub last_entry : ℕ
-last_entry = 255
-
--- the first bytes of marks that go on
-abbrev pub longer : List ℕ
-longer = code "=" ∷ code "!" ∷ code "<" ∷ code ">" ∷ code "?" ∷ []
-
--- the entry of a mark by its kind, 0 where it is none
-unfoldable pub mark_entry : ℕ → ℕ
-mark_entry zero = other_entry
-mark_entry (suc k) = suc k
-
-unfoldable pub byte_entry : ℕ → ℕ
-byte_entry b =
-    pick (is_letter b) (letter_entry + word_kind (b ∷ []))
-    (pick (is_digit b) digit_entry
-    (pick (eqb b (code "-")) minus_entry
-    (pick (is_space b) space_entry
-    (pick (among longer b) (longer_entry + kind_of edition17.marks (b ∷ []))
-    (pick (eqb b (code "`")) backtick_entry
-    (pick (eqb b (code "/")) slash_entry (mark_entry (kind_of edition17.marks (b ∷ [])))))))))
-
--- a table that holds every byte's entry
-abbrev pub Entries : List ℕ → Type 0
-Entries table = (b : ℕ) → b < 256 → get_or table b 0 ≡ byte_entry b
-
--- whether a byte's entry is one of those from a number to another
-abbrev pub has_entry : ℕ → ℕ → ℕ → Bool
-has_entry low high b = between low high (byte_entry b)
+-- whether an entry is true of a byte
+unfoldable pub says : ByteEntry → ℕ → Bool
+says entry b = and (eqb (byte_class b) (entry_class entry)) (says_kind entry b)
 
 -- the bytes from a place on that a word goes on over end before the bytes do
 abbrev pub Bounded : List ℕ → ℕ → Type 0

@@ -1,4 +1,4 @@
--- A lexeme as one number, so that it need not go through memory.
+-- A lexeme as one number, out of which it comes again (`unpack_token` and its like in proofs/). No function of the code goes by it.
 use Rattle.std.specs.Prelude.{ℕ, ◌+◌, ◌*◌}
 use Rattle.lexer.specs.Lexemes.{Lexeme, End, Skipped, Token, BadByte, OpenString}
 

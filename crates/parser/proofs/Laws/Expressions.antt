@@ -52,9 +52,10 @@ use Rattle.parser.specs.internal.Steps.{Tokens, Within, next_kind, kinds_at, beg
 use Rattle.parser.specs.internal.Steps.{opened, closed}
 use Rattle.parser.specs.internal.Steps.{Step}
 use Rattle.parser.specs.internal.Steps.{Read, Refused}
+use Rattle.parser.specs.internal.Operators.{Operation, binary, negation, return, complement, conditional, member}
 use Rattle.parser.specs.internal.Operators.{Elements, slice_elements, aggregate_elements}
-use Rattle.parser.proofs.Laws.Operators.{Operator, binary, negation, return, complement, conditional, member}
-use Rattle.parser.proofs.Laws.After.{After, start, went, looked, spoken, held, wider, done, deep-at, list_more, list_done}
+use Rattle.parser.proofs.Laws.After.{After, start, went, looked, spoken, held, wider, done, deep-at}
+use Rattle.parser.proofs.Laws.Repeated.{IsList, list_by}
 use Rattle.parser.proofs.Laws.Views.{class-kind, class_low, class_shows, names_fixed}
 use Rattle.parser.proofs.Laws.Gives.{gives_deep, gives_inlined, barred_part, barred_condition, Takes, takes, vain}
 use Rattle.parser.proofs.Laws.Readers.{opens_with, rowed, rowed-deep, closed_by, reached, none_stuck, row-deep}
@@ -107,7 +108,16 @@ module _ (form : Option ExpressionForm) {kind next : ℕ} {b : Bool} (here : kin
   none_here is one =
       eqb-false _ _ (sym (literal_form form) ∙ not-true _ (sym test ∙ is)) (made ∙ ap (kind_alternative expression) here ∙ one)
 
--- what begins a type and its elements is an alternative
+-- an operation is an alternative, ..
+pub operation_some : {a count kind : ℕ} → Operation a count kind → 0 < a
+operation_some binary = omega arith
+operation_some negation = omega arith
+operation_some return = omega arith
+operation_some complement = omega arith
+operation_some conditional = omega arith
+operation_some member = omega arith
+
+-- .. and so is what begins a type and its elements
 pub elements_some : {a before after kind : ℕ} → Elements a before after kind → 0 < a
 elements_some slice_elements = omega arith
 elements_some aggregate_elements = omega arith
@@ -333,7 +343,7 @@ module _ (source tokens : List ℕ) (good : Tokens tokens) (e : Names) where
       (expression_begun 2 expression_name expression_name_begins begins within level refl refl) (omega arith) answer table
 
   -- a mark and so many expressions
-  pub operation : {n below a count kind : ℕ} {s s₀ : Step} {t : List ℕ} → Operator a count kind
+  pub operation : {n below a count kind : ℕ} {s s₀ : Step} {t : List ℕ} → Operation a count kind
       → kind_alternative expression (next_kind tokens s) ≡ a → Within tokens 1 s → n ≡ suc below → s₀ ≡ opened s
       → Under expression n below (gives_row kind) 1 (replicate count (derived expression)) s t s₀ t
   unfolding levels
@@ -535,21 +545,11 @@ module _ (source tokens : List ℕ) (good : Tokens tokens) (e : Names) where
       by false is = plain_cast begins within level to₀ is refl d₁ d₂
 
   -- as many expressions as there are
-  pub expressions_go : {n : ℕ} {s s' s'' : Step} {t t' t'' : List ℕ}
-      → After productions v (token_room tokens) e n n no_row 0 0 (derived expressions ∷ []) (derived expressions ∷ []) s t s' t'
-      → begins_part expression tokens s' ≡ true → Part n 1 expression s' t' s'' t''
-      → After productions v (token_room tokens) e n n no_row 0 0 (derived expressions ∷ []) (derived expressions ∷ []) s t s'' t''
-  expressions_go {s' = s'} a is =
-      list_more productions v tokens e (names_fixed source tokens good e) a (λ (j k : ℕ) (read : s' ≡ Read j k).
-      expressions_more v e j (class_low source tokens good e j) (begins_there source tokens good e expression s' is j k read))
-
-  pub expressions_end : {n : ℕ} {s s' : Step} {t t' : List ℕ}
-      → After productions v (token_room tokens) e n n no_row 0 0 (derived expressions ∷ []) (derived expressions ∷ []) s t s' t'
-      → begins_part expression tokens s' ≡ false → Part n 0 expressions s t s' t'
-  expressions_end {s' = s'} a is =
-      let fixed = names_fixed source tokens good e in
-      done productions v tokens e fixed (list_done productions v tokens e fixed a (λ (j k : ℕ) (read : s' ≡ Read j k).
-      expressions_done v e j (class_low source tokens good e j) (none_there source tokens good e expression s' is j k read)))
+  pub expressions_list : IsList source tokens e expressions expression (λ s. begins_part expression tokens s)
+  expressions_list =
+      list_by source tokens good e
+      (λ s j k is read. expressions_more v e j (class_low source tokens good e j) (begins_there source tokens good e expression s is j k read))
+      (λ s j k is read. expressions_done v e j (class_low source tokens good e j) (none_there source tokens good e expression s is j k read))
 
   bit_int : (s : Step) → true ≡ asked_at (query zero_or_one) source tokens e s → (j k : ℕ) → s ≡ Read j k → kind j ≡ int
   bit_int s answer j k is =

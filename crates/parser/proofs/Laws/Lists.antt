@@ -29,7 +29,7 @@ use Rattle.parser.specs.internal.Readings.{Gives, Reads, read, refused6, refused
 use Rattle.parser.specs.internal.Steps.{Tokens, Within, next_kind, asked_at, AnswersKinds, refused_at, taken_kind, taken_word, opened}
 use Rattle.parser.specs.internal.Steps.{Step}
 use Rattle.parser.specs.internal.Steps.{Read, Refused}
-use Rattle.parser.proofs.Laws.After.{After, start, went, looked, held, wider, done, after_within}
+use Rattle.parser.proofs.Laws.After.{After, start, went, looked, held, wider, done}
 use Rattle.parser.proofs.Laws.Gives.{takes}
 use Rattle.parser.proofs.Laws.Views.{class_low, class-kind, names_fixed}
 use Rattle.parser.proofs.Laws.Steps.{asked_here, met_here}
@@ -81,13 +81,6 @@ module _ (source tokens : List ℕ) (good : Tokens tokens) (e : Names) where
   list_begun false is within level to =
       begun_mark source tokens good e left_bracket refl (λ j. name_list_one v e j (class_low source tokens good e j))
       is within level refl to
-
-  -- .. at a token of the table
-  pub list_within : (keywords : Bool) {s s₀ : Step} → AnswersKinds (query (opens_of keywords)) tokens s true → Within tokens 1 s
-      → s₀ ≡ opened s → Within tokens 0 s₀
-  list_within keywords {s} opens within to =
-      after_within productions v tokens e (names_fixed source tokens good e)
-      (list_begun {n = 1} {below = 0} keywords {t = []} (list_bracket keywords tokens s opens) within refl to)
 
   -- `[` word+ `]`
   pub list_read : {n below : ℕ} (keywords : Bool) {s s₀ s₁ s₂ s₃ : Step} {t : List ℕ}

@@ -25,9 +25,9 @@ use Rattle.grammar.proofs.Laws.Alternatives17.{payloads2_done, payloads1_more, p
 use Rattle.parser.specs.internal.Readings.{Reads}
 use Rattle.parser.specs.internal.Steps.{Tokens, Within, next_kind, refused_at, taken_kind, opened, closed, word_kinds}
 use Rattle.parser.specs.internal.Steps.{Step}
-use Rattle.parser.specs.internal.Steps.{Read}
 use Rattle.parser.proofs.Laws.Kinds.{word_kind}
-use Rattle.parser.proofs.Laws.After.{After, went, wider, done, list_more, list_done}
+use Rattle.parser.proofs.Laws.After.{After, went, wider, done}
+use Rattle.parser.proofs.Laws.Repeated.{IsList, list_by}
 use Rattle.parser.proofs.Laws.Views.{class_low, names_fixed}
 use Rattle.parser.proofs.Laws.Readers.{opens_with, begun_by, closed_by, rowed, row-deep, took_mark, looked_by, reached}
 
@@ -73,22 +73,11 @@ module _ (source tokens : List ℕ) (good : Tokens tokens) (e : Names) where
   Part n least x = Reads productions v (token_room tokens) e n least 0 (derived x ∷ [])
 
   -- as many arms as there are
-  pub arms_go : {n : ℕ} {s s' s'' : Step} {t t' t'' : List ℕ}
-      → After productions v (token_room tokens) e n n no_row 0 0 (derived arms ∷ []) (derived arms ∷ []) s t s' t'
-      → among arm_kinds (next_kind tokens s') ≡ true
-      → Part n 1 arm s' t' s'' t''
-      → After productions v (token_room tokens) e n n no_row 0 0 (derived arms ∷ []) (derived arms ∷ []) s t s'' t''
-  arms_go {s' = s'} a is =
-      list_more productions v tokens e (names_fixed source tokens good e) a (λ (j k : ℕ) (read : s' ≡ Read j k).
-      arms_more v e j (class_low source tokens good e j) (ap (among arm_kinds) (reached source tokens good e s' j k read) ∙ is))
-
-  pub arms_end : {n : ℕ} {s s' : Step} {t t' : List ℕ}
-      → After productions v (token_room tokens) e n n no_row 0 0 (derived arms ∷ []) (derived arms ∷ []) s t s' t'
-      → among arm_kinds (next_kind tokens s') ≡ false → Part n 0 arms s t s' t'
-  arms_end {s' = s'} a is =
-      let fixed = names_fixed source tokens good e in
-      done productions v tokens e fixed (list_done productions v tokens e fixed a (λ (j k : ℕ) (read : s' ≡ Read j k).
-      arms_done v e j (class_low source tokens good e j) (ap (among arm_kinds) (reached source tokens good e s' j k read) ∙ is)))
+  pub arms_list : IsList source tokens e arms arm (λ s. among arm_kinds (next_kind tokens s))
+  arms_list =
+      list_by source tokens good e
+      (λ s j k is read. arms_more v e j (class_low source tokens good e j) (ap (among arm_kinds) (reached source tokens good e s j k read) ∙ is))
+      (λ s j k is read. arms_done v e j (class_low source tokens good e j) (ap (among arm_kinds) (reached source tokens good e s j k read) ∙ is))
 
   -- a head, payloads, `→` and an expression
   pub arm_whole : {n below : ℕ} {s s₀ s₁ s₂ s₃ : Step} {t t₁ t₃ : List ℕ} → among arm_kinds (next_kind tokens s) ≡ true

@@ -1,9 +1,11 @@
 -- The productions of parameters and of fields, read step by step. Assumes nothing.
-use Prim.Native.Nat.{ℕ, suc, ◌-◌}
+use Prim.Native.Nat.{ℕ, suc, ◌-◌, ◌≤◌}
+use native.Mathlib.Omega.{arith}
 use mathlib.Core.Path.{◌≡◌, refl, ap, ◌∙◌}
-use mathlib.Core.Bool.{true, false}
+use mathlib.Core.Bool.{Bool, true, false}
 use mathlib.Core.List.{List, [], ◌∷◌}
 use lib.Dec.{eqb}
+use Rattle.lexer.specs.Tests.{pick}
 use Rattle.lexer.specs.internal.Kinds.{ident}
 use Rattle.lexer.specs.Table.{token_room}
 use Rattle.lexer.specs.internal.TokenRows.{rows_of}
@@ -21,14 +23,27 @@ use Rattle.grammar.specs.internal.Alternatives.{kind_of_class, kind_alternative}
 use Rattle.grammar.proofs.Laws.Alternatives17.{parameters_more, parameters_done, fields_more, fields_done, parameter_one, field_one}
 use Rattle.grammar.proofs.Laws.Alternatives17.{field_name_some, field_name_none}
 use Rattle.parser.specs.internal.Readings.{Reads}
-use Rattle.parser.specs.internal.Steps.{Tokens, Within, next_kind, begins_part, refused_at, taken_kind, taken_if, row_left}
+use Rattle.parser.specs.internal.Steps.{Tokens, Within, next_kind, begins_part, refused_at, taken_by, taken_kind, taken_if, row_left}
 use Rattle.parser.specs.internal.Steps.{Step}
-use Rattle.parser.specs.internal.Steps.{Read}
-use Rattle.parser.proofs.Laws.After.{After, begun_part, went, held, done, list_more, list_done}
+use Rattle.parser.specs.internal.Steps.{Read, Refused}
+use Rattle.parser.proofs.Laws.After.{After, begun_part, went, held}
+use Rattle.parser.proofs.Laws.Repeated.{IsList, list_by}
 use Rattle.parser.proofs.Laws.Views.{class_low, names_fixed}
 use Rattle.parser.proofs.Laws.Readers.{name-marks, begins_some, rowed, reached, row-deep, took_name, looked_by, begins_there}
 use Rattle.parser.proofs.Laws.Readers.{none_there}
 use Rattle.parser.proofs.Laws.Options.{took_where, kind-met}
+
+-- after a refusal no name is taken
+pub unnamed : (always : Bool) (tokens : List ℕ) {number place : ℕ}
+    → Refused number place ≡ pick always (taken_kind tokens ident (Refused number place)) (taken_if tokens ident (Refused number place))
+unfolding taken_by taken_if
+unnamed true tokens = refl
+unnamed false tokens = refl
+
+-- either takes a token
+pub named_least : (always : Bool) → 1 ≤ pick always 2 1
+named_least true = omega arith
+named_least false = omega arith
 
 module _ (source tokens : List ℕ) (good : Tokens tokens) (e : Names) where
   abbrev v : View
@@ -54,7 +69,7 @@ module _ (source tokens : List ℕ) (good : Tokens tokens) (e : Names) where
   field_is s is j k = field_one v e j (class_low source tokens good e j) (some_type s is j k)
 
   -- type IDENT
-  pub parameter-read : {n below : ℕ} {s s₀ s₁ s₂ : Step} {t t₁ : List ℕ} → begins_part type tokens s ≡ true → Within tokens 0 s
+  parameter-read : {n below : ℕ} {s s₀ s₁ s₂ : Step} {t t₁ : List ℕ} → begins_part type tokens s ≡ true → Within tokens 0 s
       → n ≡ suc below → s₀ ≡ row_left s → Part below 1 type s₀ t s₁ t₁
       → s₂ ≡ taken_kind tokens ident s₁
       → Under parameter n below (gives_row parameter_row) 2 [] s t s₂ t₁
@@ -68,7 +83,7 @@ module _ (source tokens : List ℕ) (good : Tokens tokens) (e : Names) where
       took_name source tokens good e (went productions v tokens e fixed a₀ d₁) to₂
 
   -- .. too deep where no level is left
-  pub parameter_deep : {n : ℕ} (s : Step) {t : List ℕ} → begins_part type tokens s ≡ true → n ≡ 0
+  parameter_deep : {n : ℕ} (s : Step) {t : List ℕ} → begins_part type tokens s ≡ true → n ≡ 0
       → Part n 1 parameter s t (refused_at 7 s) t
   unfolding rowed levels
   parameter_deep s is spent =
@@ -93,7 +108,7 @@ module _ (source tokens : List ℕ) (good : Tokens tokens) (e : Names) where
       (ap (λ (n : ℕ). eqb n ident) (reached source tokens good e s' j k read) ∙ h)))
 
   -- type IDENT?
-  pub field-read : {n below : ℕ} {s s₀ s₁ s₂ : Step} {t t₁ : List ℕ} → begins_part type tokens s ≡ true → Within tokens 0 s
+  field-read : {n below : ℕ} {s s₀ s₁ s₂ : Step} {t t₁ : List ℕ} → begins_part type tokens s ≡ true → Within tokens 0 s
       → n ≡ suc below → s₀ ≡ row_left s → Part below 1 type s₀ t s₁ t₁
       → s₂ ≡ taken_if tokens ident s₁
       → Under field n below (gives_row parameter_row) 1 [] s t s₂ t₁
@@ -107,43 +122,43 @@ module _ (source tokens : List ℕ) (good : Tokens tokens) (e : Names) where
       field_name_lem (went productions v tokens e fixed a₀ d₁) to₂
 
   -- .. too deep where no level is left
-  pub field_deep : {n : ℕ} (s : Step) {t : List ℕ} → begins_part type tokens s ≡ true → n ≡ 0
+  field_deep : {n : ℕ} (s : Step) {t : List ℕ} → begins_part type tokens s ≡ true → n ≡ 0
       → Part n 1 field s t (refused_at 7 s) t
   unfolding rowed levels
   field_deep s is spent =
       row-deep source tokens good e s (selected (rule_of field (gives_row parameter_row) (derived type ∷ derived field_name ∷ []))) spent refl
       (field_is s is)
 
-  -- as many parameters as there are
-  pub parameters_go : {n : ℕ} {s s' s'' : Step} {t t' t'' : List ℕ}
-      → After productions v (token_room tokens) e n n no_row 0 0 (derived parameters ∷ []) (derived parameters ∷ []) s t s' t'
-      → begins_part type tokens s' ≡ true → Part n 1 parameter s' t' s'' t''
-      → After productions v (token_room tokens) e n n no_row 0 0 (derived parameters ∷ []) (derived parameters ∷ []) s t s'' t''
-  parameters_go {s' = s'} a is =
-      list_more productions v tokens e (names_fixed source tokens good e) a (λ (j k : ℕ) (read : s' ≡ Read j k).
-      parameters_more v e j (class_low source tokens good e j) (begins_there source tokens good e type s' is j k read))
+  -- type IDENT or type IDENT?
+  pub named-read : (always : Bool) {n below : ℕ} {s s₀ s₁ s₂ : Step} {t t₁ : List ℕ} → begins_part type tokens s ≡ true → Within tokens 0 s
+      → n ≡ suc below → s₀ ≡ row_left s → Part below 1 type s₀ t s₁ t₁
+      → s₂ ≡ pick always (taken_kind tokens ident s₁) (taken_if tokens ident s₁)
+      → Under (pick always parameter field) n below (gives_row parameter_row) (pick always 2 1) [] s t s₂ t₁
+  named-read true = parameter-read
+  named-read false = field-read
 
-  pub parameters_end : {n : ℕ} {s s' : Step} {t t' : List ℕ}
-      → After productions v (token_room tokens) e n n no_row 0 0 (derived parameters ∷ []) (derived parameters ∷ []) s t s' t'
-      → begins_part type tokens s' ≡ false → Part n 0 parameters s t s' t'
-  parameters_end {s' = s'} a is =
-      let fixed = names_fixed source tokens good e in
-      done productions v tokens e fixed (list_done productions v tokens e fixed a (λ (j k : ℕ) (read : s' ≡ Read j k).
-      parameters_done v e j (class_low source tokens good e j) (none_there source tokens good e type s' is j k read)))
+  -- .. too deep where no level is left
+  pub named_deep : (always : Bool) {n : ℕ} (s : Step) {t : List ℕ} → begins_part type tokens s ≡ true → n ≡ 0
+      → Part n 1 (pick always parameter field) s t (refused_at 7 s) t
+  named_deep true = parameter_deep
+  named_deep false = field_deep
+
+  -- as many parameters as there are
+  parameters_list : IsList source tokens e parameters parameter (λ s. begins_part type tokens s)
+  parameters_list =
+      list_by source tokens good e
+      (λ s j k is read. parameters_more v e j (class_low source tokens good e j) (begins_there source tokens good e type s is j k read))
+      (λ s j k is read. parameters_done v e j (class_low source tokens good e j) (none_there source tokens good e type s is j k read))
 
   -- as many fields as there are
-  pub fields_go : {n : ℕ} {s s' s'' : Step} {t t' t'' : List ℕ}
-      → After productions v (token_room tokens) e n n no_row 0 0 (derived fields ∷ []) (derived fields ∷ []) s t s' t'
-      → begins_part type tokens s' ≡ true → Part n 1 field s' t' s'' t''
-      → After productions v (token_room tokens) e n n no_row 0 0 (derived fields ∷ []) (derived fields ∷ []) s t s'' t''
-  fields_go {s' = s'} a is =
-      list_more productions v tokens e (names_fixed source tokens good e) a (λ (j k : ℕ) (read : s' ≡ Read j k).
-      fields_more v e j (class_low source tokens good e j) (begins_there source tokens good e type s' is j k read))
+  fields_list : IsList source tokens e fields field (λ s. begins_part type tokens s)
+  fields_list =
+      list_by source tokens good e
+      (λ s j k is read. fields_more v e j (class_low source tokens good e j) (begins_there source tokens good e type s is j k read))
+      (λ s j k is read. fields_done v e j (class_low source tokens good e j) (none_there source tokens good e type s is j k read))
 
-  pub fields_end : {n : ℕ} {s s' : Step} {t t' : List ℕ}
-      → After productions v (token_room tokens) e n n no_row 0 0 (derived fields ∷ []) (derived fields ∷ []) s t s' t'
-      → begins_part type tokens s' ≡ false → Part n 0 fields s t s' t'
-  fields_end {s' = s'} a is =
-      let fixed = names_fixed source tokens good e in
-      done productions v tokens e fixed (list_done productions v tokens e fixed a (λ (j k : ℕ) (read : s' ≡ Read j k).
-      fields_done v e j (class_low source tokens good e j) (none_there source tokens good e type s' is j k read)))
+  -- .. and of either
+  pub named_list : (always : Bool) → IsList source tokens e (pick always parameters fields) (pick always parameter field)
+      (λ s. begins_part type tokens s)
+  named_list true = parameters_list
+  named_list false = fields_list

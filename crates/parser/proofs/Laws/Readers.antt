@@ -4,7 +4,6 @@ use Prim.Native.Nat.{ℕ, suc, ◌+◌, ◌-◌, ◌<◌, ◌≤◌}
 use mathlib.Core.Path.{◌≡◌, refl, ◌∙◌, sym, ap}
 use mathlib.Core.Bool.{Bool, true, false}
 use mathlib.Core.List.{List, [], ◌∷◌, ◌++◌}
-use native.Mathlib.Nat.{pos_of_ne-zero}
 use native.Mathlib.Omega.{arith}
 use lib.Dec.{eqb, leb, ltb}
 use lib.ListN.{replicate}
@@ -35,7 +34,7 @@ use Rattle.parser.specs.internal.Steps.{Step}
 use Rattle.parser.specs.internal.Steps.{Read, Refused}
 use Rattle.parser.proofs.Laws.Gives.{gives_deep, takes}
 use Rattle.parser.proofs.Laws.After.{After, begun, took, went, looked, spoken, wider, closes, after-spans, after_within, stuck_at}
-use Rattle.parser.proofs.Laws.After.{deep-at, within_wider, within_small, start, done}
+use Rattle.parser.proofs.Laws.After.{deep-at, within_small, start, done}
 use Rattle.parser.proofs.Laws.Kinds.{word-inside}
 use Rattle.parser.proofs.Laws.Views.{kind-inside, class-kind, class_shows, names_fixed}
 
@@ -89,13 +88,9 @@ pub name-marks : marks name ident ≡ true
 unfolding below and or agrees among marks
 name-marks = refl
 
--- a number that is not the lowest is higher
-pub beyond : {m n : ℕ} → m ≤ n → (n ≡ m → ⊥) → suc m ≤ n
-beyond low not = omega arith
-
--- the levels below one that is left
-pub level_below : {n : ℕ} → 0 < n → n ≡ suc (n - 1)
-level_below some = omega arith
+-- where one level more is left than there are below
+pub one_below : {n below : ℕ} → n ≡ below + 1 → n ≡ suc below
+one_below level = omega (arith, level)
 
 -- what begins something has an alternative
 pub begins_some : (x : ℕ) (tokens : List ℕ) (s : Step) → begins_part x tokens s ≡ true
@@ -118,35 +113,9 @@ taken_fewer {more} tokens test room (inside {at = i} {row = r} few to) = within_
     within_by false here = elsewhere
 taken_fewer tokens test room elsewhere = elsewhere
 
-within_taken : {more : ℕ} {s : Step} (tokens : List ℕ) (test : ℕ → Bool) → ((j : ℕ) → test j ≡ true → j < token_room tokens)
-    → Within tokens more s → Within tokens more (taken_by test s)
-within_taken tokens test room within = taken_fewer tokens test room (within_wider tokens within (omega arith))
-
 -- a token of a kind is one of the table
 pub kind_room : (tokens : List ℕ) (kind : ℕ) → 0 < kind → (j : ℕ) → eqb (kind_at tokens j) kind ≡ true → j < token_room tokens
 kind_room tokens kind some j h = kind-inside tokens j kind (eqb-true (kind_at tokens j) kind h) some
-
--- .. a mark or a name, ..
-pub within_mark : {more : ℕ} {s s' : Step} (tokens : List ℕ) (kind : ℕ) → s' ≡ taken_kind tokens (suc kind) s → Within tokens more s
-    → Within tokens more s'
-within_mark tokens kind to within =
-    rw to (within_taken tokens (λ (j : ℕ). eqb (kind_at tokens j) (suc kind)) (kind_room tokens (suc kind) (omega arith)) within)
-
--- .. or a word
-pub within_word : {more : ℕ} {s s' : Step} (tokens : List ℕ) (keywords : Bool) → s' ≡ taken_word tokens keywords s → Within tokens more s
-    → Within tokens more s'
-within_word tokens keywords to within =
-    rw to (within_taken tokens (λ (j : ℕ). among (word_kinds keywords) (kind_at tokens j)) (word-inside keywords tokens) within)
-
--- the token that begins something is one of the table
-pub opened-within : {a : ℕ} {s s' : Step} (x : ℕ) → kind_alternative x 0 ≡ 0 → (tokens : List ℕ)
-    → kind_alternative x (next_kind tokens s) ≡ suc a → Within tokens 1 s → s' ≡ opened s → Within tokens 0 s'
-unfolding next_kind opened
-opened-within {a} x ends tokens begins (inside {at = i} {row = r} few to) is =
-    let room = kind-inside tokens i (kind_at tokens i) refl (pos_of_ne-zero (λ (z : kind_at tokens i ≡ 0).
-    let gone : kind_alternative x (kind_at tokens i) ≡ 0 = ap (kind_alternative x) z ∙ ends in absurd (omega arith))) in
-    rw is (inside {at = i + 1} {row = r + 1} (omega arith) (omega arith))
-opened-within x ends tokens begins elsewhere is = rw is elsewhere
 
 -- whether a production that makes a row is chosen
 unfoldable pub rowed : Choice → Bool

@@ -7,7 +7,7 @@ use native.Mathlib.Omega.{arith}
 use native.Mathlib.Nat.{pos_of_ne-zero}
 use lib.Dec.{eqb}
 use borrow.Author.Tests.{eqb-true}
-use Rattle.std.specs.Prelude.{Result, IsErrAnd}
+use Rattle.std.specs.Prelude.{Result, Err, IsErrAnd}
 use Rattle.std.proofs.lemmas.Result.{err_from_is_err_and}
 use Rattle.lexer.specs.Tests.{among}
 use Rattle.lexer.specs.Table.{token_room}
@@ -17,14 +17,15 @@ use Rattle.lexer.specs.internal.KindNumbers.{kind_number}
 use Rattle.lexer.specs.declared.kinds.TokenKind.{TokenKind}
 use Rattle.lexer.specs.declared.kinds.TokenKind.TheVariants as kinds
 use Rattle.lexer.specs.declared.refusals.Refusal.{Refusal}
-use Rattle.grammar.specs.Grammars.{Symbol, derived, Makes, gives_row, no_row, Production, Names, View}
+use Rattle.grammar.specs.Grammars.{Symbol, derived, Makes, gives_row, Production, Names, View}
 use Rattle.grammar.specs.Nurl.{productions}
 use Rattle.grammar.specs.Languages.{language17}
 use Rattle.grammar.specs.Sources.{view_of}
 use Rattle.grammar.specs.internal.Alternatives.{kind_alternative}
 use Rattle.parser.specs.internal.Readings.{Reads, refused6, refused7}
 use Rattle.parser.specs.internal.Steps.{Step, Read, Refused, Within, inside, Tokens, next_kind, step_at, step_of, Closable, spans}
-use Rattle.parser.specs.internal.Steps.{opened, closed, word_kinds}
+use Rattle.parser.specs.internal.Steps.{opened, closed, refused_at, word_kinds}
+use Rattle.parser.specs.internal.Readers.{names_of}
 use Rattle.parser.specs.declared.Place.{Place}
 use Rattle.parser.specs.declared.reading.Reading.{Reading}
 use Rattle.parser.proofs.Laws.After.{After, stopped6, stopped7, passed_on, within_wider, within_small}
@@ -37,8 +38,13 @@ use Rattle.parser.specs.internal.Readings as readings
 pub wide : {tokens : List ℕ} {p : Place} → Within tokens 0 (step_at p) → Within tokens 1 (step_at p)
 wide {tokens} within = within_wider tokens within (omega arith)
 
+-- where a reader has come to, as many rows as two for each token are passed
+pub arrived : {tokens : List ℕ} {p : Place} {g : List Production} {v : View} {e : Names} {n least : ℕ} {ss : List Symbol} {s : Step} {t t' : List ℕ}
+    → Reads g v (token_room tokens) e n least 0 ss s t (step_at p) t' → Within tokens 0 (step_at p)
+arrived (readings.read d rows table from few to) = inside few (omega arith)
+
 -- what a `?` answers where it leaves
-exit : (r : Result Place Refusal) (d : Refusal) → IsErrAnd r (λ (y : Refusal). y ≡ d) → step_of r ≡ Refused (reason_number d.reason) d.place
+pub exit : (r : Result Place Refusal) (d : Refusal) → IsErrAnd r (λ (y : Refusal). y ≡ d) → step_of r ≡ Refused (reason_number d.reason) d.place
 exit r d h = let p = err_from_is_err_and r h in rw (p.1, p.2)
 
 -- a part after a refusal, which it passes on
@@ -62,6 +68,20 @@ pub leaves : (r : Result Place Refusal) (d : Refusal) {g : List Production} {v :
     → After g v count e n below m least more ts ss s t (Refused (reason_number d.reason) d.place) t'
     → Reads g v count e n least' more' ts s t (step_of r) t'
 leaves r d h a = rw (exit r d h) (stops a)
+
+-- a `?` that leaves where no level is left: what is read there is too deep
+pub no_level : (r : Result Place Refusal) (d : Refusal) {left : ℕ} {g : List Production} {v : View} {count : ℕ} {e : Names} {n least more : ℕ}
+    {ss : List Symbol} {s : Step} {t : List ℕ}
+    → IsErrAnd r (λ (y : Refusal). y ≡ d) → (left ≡ 0) × (step_of (Err d) ≡ refused_at 7 s)
+    → (left ≡ 0 → Reads g v count e n least more ss s t (refused_at 7 s) t)
+    → Reads g v count e n least more ss s t (step_of r) t
+no_level r d h spent deep = rw (exit r d h ∙ spent.1) (deep spent.0)
+
+-- the levels left, and one more than those below
+pub same_level : (below : ℕ) {left : ℕ} {g : List Production} {v : View} {count : ℕ} {e : Names} {least more : ℕ} {ss : List Symbol} {s s' : Step}
+    {t t' : List ℕ}
+    → left ≡ below + 1 → Reads g v count e (below + 1) least more ss s t s' t' → Reads g v count e left least more ss s t s' t'
+same_level below is d = rw is d
 
 -- a kind of token has a number
 pub kind_some : (k : TokenKind) → 0 < kind_number k
@@ -171,8 +191,8 @@ module _ (source tokens : List ℕ) (good : Tokens tokens) (e : Names) where
   row_read a enough is table =
       closed_by productions v tokens e (names_fixed source tokens good e) a enough (ap step_at is) table
 
--- a list of x, as many as there are, is read up to here: what a loop keeps
-abbrev pub Listing : Reading → List ℕ → Names → ℕ → ℕ → Place → List ℕ → Place → List ℕ → Type 0
-Listing r source e n x from table to after =
-    After productions (view_of language17 source (rows_of r.tokens.now)) (token_room r.tokens.now) e n n no_row 0 0 (derived x ∷ []) (derived x ∷ [])
-    (step_at from) table (step_at to) after
+-- a row of kind is begun below x with one level less, and the symbols ss are left: what its reader knows on the way
+abbrev pub Begun : Reading → ℕ → ℕ → ℕ → List Symbol → Place → List ℕ → Place → List ℕ → Type 0
+Begun r below kind x ss from table to after =
+    After productions (view_of language17 r.source.now (rows_of r.tokens.now)) (token_room r.tokens.now) (names_of r) (below + 1) below
+    (gives_row kind) 1 0 (derived x ∷ []) ss (step_at from) table (step_at to) after

@@ -1,11 +1,10 @@
 -- The productions of blocks and statements, read step by step. Assumes nothing.
-use Prim.Native.Nat.{ℕ, zero, suc, ◌<◌, ◌≤◌}
+use Prim.Native.Nat.{ℕ, zero, suc, ◌<◌}
 use mathlib.Core.Path.{◌≡◌, refl, ap, ◌∙◌}
-use mathlib.Core.Bool.{Bool, true, false, not}
+use mathlib.Core.Bool.{Bool, true, false}
 use mathlib.Core.List.{List, [], ◌∷◌}
 use native.Mathlib.Omega.{arith}
-use denote.Enum.Bare.{sameb, differs_true}
-use lib.Dec.{eqb, leb, ltb}
+use lib.Dec.{eqb, ltb}
 use borrow.Author.Tests.{eqb-true}
 use Rattle.std.specs.Prelude.{Some}
 use Rattle.lexer.specs.Tests.{and, between}
@@ -17,7 +16,6 @@ use Rattle.tree.specs.internal.RowKinds.{block_row, let_row, set_name_row, set_e
 use Rattle.grammar.specs.Grammars.{query, Symbol, token, derived, unless, Makes, gives_row, row_of, gives_kind, no_row, Names, View, asked, met}
 use Rattle.grammar.specs.Rows.{levels}
 use Rattle.grammar.specs.executable.Reading.{selected, choice}
-use Rattle.grammar.specs.contracts.forms.StatementForm.{the_type}
 use Rattle.grammar.specs.declared.forms.StatementForm.{StatementForm}
 use Rattle.grammar.specs.declared.forms.StatementForm.TheVariants.{Expression, Let, Assignment, Defer, Tilde}
 use Rattle.grammar.specs.internal.Forms.{statement_form_number}
@@ -38,14 +36,17 @@ use Rattle.grammar.proofs.Laws.Alternatives17.{mutable_none, binding_named, bind
 use Rattle.grammar.proofs.Laws.Alternatives17.{assignment_set_element, assignment_none, tilde_statement_foreach, tilde_statement_other}
 use Rattle.grammar.proofs.Laws.Alternatives17.{tilde_statement_none, loop_or_complement_some, loop_or_complement_none}
 use Rattle.grammar.proofs.Laws.Alternatives17 as alternatives
+use Rattle.parser.specs.internal.Readers.{names_of}
 use Rattle.parser.specs.internal.Readings.{Reads}
+use Rattle.parser.specs.declared.reading.Reading.{Reading}
 use Rattle.parser.specs.internal.Steps.{Tokens, Within, next_kind, begins_part, kinds_at, asked_at, refused_at, taken_kind, taken_if, opened}
 use Rattle.parser.specs.internal.Steps.{Step}
 use Rattle.parser.specs.internal.Steps.{Read}
-use Rattle.parser.proofs.Laws.After.{After, start, went, looked, spoken, held, done, list_more, list_done}
+use Rattle.parser.proofs.Laws.After.{After, start, went, looked, spoken, held, wider, done}
+use Rattle.parser.proofs.Laws.Repeated.{IsList, list_by}
 use Rattle.parser.proofs.Laws.Views.{class_low, class-kind, names_fixed}
 use Rattle.parser.proofs.Laws.Gives.{barred_token, barred_part, barred_condition, Takes, takes, vain}
-use Rattle.parser.proofs.Laws.Readers.{reached, begun_mark, begun_at, rowed, few_numbers, none_stuck, row-deep, class-marks}
+use Rattle.parser.proofs.Laws.Readers.{reached, begun_mark, begun_at, rowed, none_stuck, row-deep, class-marks}
 use Rattle.parser.proofs.Laws.Readers.{mark_marks, name-marks, took_mark, took_name, looked_by, spoken_by, begins_there}
 use Rattle.parser.proofs.Laws.Readers.{none_there, alternative_is, some_rowed}
 use Rattle.parser.proofs.Laws.Questions.{two_names_lem, plain_class}
@@ -67,23 +68,35 @@ statement_rows :
 unfolding below implies and rowed levels nth productions kind_number
 statement_rows = refl
 
--- there are five
-statement_numbers : below (λ (k : ℕ). leb (kind_number statement k) 5) classes ≡ true
-unfolding below and kind_number
-statement_numbers = refl
-
-pub statement_few : (k : ℕ) → kind_alternative statement k ≤ 5
-statement_few = few_numbers statement 5 statement_numbers
+-- the form that is no other is the one that begins with a `~`
+pub tilde_left : (form : StatementForm) → (form ≡ Expression → ⊥) → (form ≡ Let → ⊥) → (form ≡ Assignment → ⊥) → (form ≡ Defer → ⊥) → form ≡ Tilde
+tilde_left Expression e l a d = absurd (e refl)
+tilde_left Let e l a d = absurd (l refl)
+tilde_left Assignment e l a d = absurd (a refl)
+tilde_left Defer e l a d = absurd (d refl)
+tilde_left Tilde e l a d = refl
 
 -- a form that is no expression has a number above 1
-pub more_than_expression : (form : StatementForm) → not (sameb the_type form Expression) ≡ true → 1 < statement_form_number (Some form)
-more_than_expression Expression other = absurd (differs_true the_type Expression Expression other refl)
+pub more_than_expression : (form : StatementForm) → (form ≡ Expression → ⊥) → 1 < statement_form_number (Some form)
+more_than_expression Expression other = absurd (other refl)
 more_than_expression Let _ = omega arith
 more_than_expression Assignment _ = omega arith
 more_than_expression Defer _ = omega arith
 more_than_expression Tilde _ = omega arith
 
-module _ (source tokens : List ℕ) (good : Tokens tokens) (e : Names) where
+module _ (reading : Reading) where
+  abbrev source : List ℕ
+  source = reading.source.now
+
+  abbrev tokens : List ℕ
+  tokens = reading.tokens.now
+
+  abbrev good : Tokens tokens
+  good = reading.tokens_good
+
+  abbrev e : Names
+  e = names_of reading
+
   abbrev v : View
   v = view_of language17 source (rows_of tokens)
 
@@ -122,22 +135,11 @@ module _ (source tokens : List ℕ) (good : Tokens tokens) (e : Names) where
       (λ j k. block_one v e j (class_low source tokens good e j) (k ∙ eqb-true (next_kind tokens s) left_brace is))
 
   -- as many statements as there are
-  pub statements_go : {n : ℕ} {s s' s'' : Step} {t t' t'' : List ℕ}
-      → After productions v (token_room tokens) e n n no_row 0 0 (derived statements ∷ []) (derived statements ∷ []) s t s' t'
-      → begins_part statement tokens s' ≡ true
-      → Part n 1 statement s' t' s'' t''
-      → After productions v (token_room tokens) e n n no_row 0 0 (derived statements ∷ []) (derived statements ∷ []) s t s'' t''
-  statements_go {s' = s'} a is =
-      list_more productions v tokens e (names_fixed source tokens good e) a (λ (j k : ℕ) (read : s' ≡ Read j k).
-      statements_more v e j (class_low source tokens good e j) (begins_there source tokens good e statement s' is j k read))
-
-  pub statements_end : {n : ℕ} {s s' : Step} {t t' : List ℕ}
-      → After productions v (token_room tokens) e n n no_row 0 0 (derived statements ∷ []) (derived statements ∷ []) s t s' t'
-      → begins_part statement tokens s' ≡ false → Part n 0 statements s t s' t'
-  statements_end {s' = s'} a is =
-      let fixed = names_fixed source tokens good e in
-      done productions v tokens e fixed (list_done productions v tokens e fixed a (λ (j k : ℕ) (read : s' ≡ Read j k).
-      statements_done v e j (class_low source tokens good e j) (none_there source tokens good e statement s' is j k read)))
+  pub statements_list : IsList source tokens e statements statement (λ s. begins_part statement tokens s)
+  statements_list =
+      list_by source tokens good e
+      (λ s j k is read. statements_more v e j (class_low source tokens good e j) (begins_there source tokens good e statement s is j k read))
+      (λ s j k is read. statements_done v e j (class_low source tokens good e j) (none_there source tokens good e statement s is j k read))
 
   statement-choice : (j : ℕ)
       → choice productions v e statement j ≡ nth statement (kind_alternative statement (kind_of_class (v.class e j))) productions
@@ -197,19 +199,17 @@ module _ (source tokens : List ℕ) (good : Tokens tokens) (e : Names) where
       (λ (j : ℕ). mutable_none v e j (class_low source tokens good e j))
       (statement_begun 2 statement_let statement_let_begins begins within level refl to₀) to₁
 
-  -- `:` `~`? IDENT expression
-  pub let_plain : {n below : ℕ} {s s₀ s₁ s₂ s₃ : Step} {t t₃ : List ℕ} → kind_alternative statement (next_kind tokens s) ≡ 2
+  -- the name of a let is next
+  pub let_plain : {n below : ℕ} {s s₀ s₁ : Step} {t : List ℕ} → kind_alternative statement (next_kind tokens s) ≡ 2
       → Within tokens 1 s → n ≡ suc below → s₀ ≡ opened s → s₁ ≡ taken_if tokens tilde s₀
-      → asked_at plain_name source tokens e s₁ ≡ true → s₂ ≡ taken_kind tokens ident s₁
-      → Part below 1 expression s₂ t s₃ t₃
-      → Under statement n below (gives_row let_row) 3 [] s t s₃ t₃
-  let_plain {s₁ = s₁} begins within level to₀ to₁ is to₂ d₃ =
+      → asked_at plain_name source tokens e s₁ ≡ true
+      → Under statement n below (gives_row let_row) 1 (token name ∷ derived expression ∷ []) s t s₁ t
+  let_plain {s₁ = s₁} begins within level to₀ to₁ is =
       let fixed = names_fixed source tokens good e in
-      let a = looked productions v tokens e fixed (let_begun begins within level to₀ to₁)
+      held productions v tokens e fixed (looked productions v tokens e fixed (let_begun begins within level to₀ to₁)
       (λ (j k : ℕ) (at : s₁ ≡ Read j k).
-      takes (binding_named v e j (class_low source tokens good e j) (plain_class source tokens e true s₁ is j k at))) refl in
-      let b = held productions v tokens e fixed a (met_here source tokens e plain_name s₁ true is) in
-      went productions v tokens e fixed (took_name source tokens good e b to₂) d₃
+      takes (binding_named v e j (class_low source tokens good e j) (plain_class source tokens e true s₁ is j k at))) refl)
+      (met_here source tokens e plain_name s₁ true is)
 
   typed_takes : (s : Step) → asked_at plain_name source tokens e s ≡ false → (j k : ℕ) → s ≡ Read j k
       → Takes productions v e binding (rule_of binding no_row (unless plain_name ∷ derived type ∷ token name ∷ derived expression ∷ [])) j
@@ -226,19 +226,23 @@ module _ (source tokens : List ℕ) (good : Tokens tokens) (e : Names) where
           (barred_condition (barred_part (type-none source tokens good e j h)))
       by (suc n) h = takes (binding_typed v e j low (plain_class source tokens e false s not j k at) h)
 
-  -- `:` `~`? type IDENT expression
-  pub let_typed : {n below : ℕ} {s s₀ s₁ s₂ s₃ s₄ : Step} {t t₂ t₄ : List ℕ} → kind_alternative statement (next_kind tokens s) ≡ 2
+  -- .. after its type
+  pub let_typed : {n below : ℕ} {s s₀ s₁ s₂ : Step} {t t₂ : List ℕ} → kind_alternative statement (next_kind tokens s) ≡ 2
       → Within tokens 1 s → n ≡ suc below → s₀ ≡ opened s → s₁ ≡ taken_if tokens tilde s₀
-      → asked_at plain_name source tokens e s₁ ≡ false
-      → Part below 1 type s₁ t s₂ t₂ → s₃ ≡ taken_kind tokens ident s₂
-      → Part below 1 expression s₃ t₂ s₄ t₄
-      → Under statement n below (gives_row let_row) 4 [] s t s₄ t₄
-  let_typed {s₁ = s₁} begins within level to₀ to₁ not d₂ to₃ d₄ =
+      → asked_at plain_name source tokens e s₁ ≡ false → Part below 1 type s₁ t s₂ t₂
+      → Under statement n below (gives_row let_row) 1 (token name ∷ derived expression ∷ []) s t s₂ t₂
+  let_typed {s₁ = s₁} begins within level to₀ to₁ not d₂ =
       let fixed = names_fixed source tokens good e in
       let a = looked productions v tokens e fixed (let_begun begins within level to₀ to₁) (typed_takes s₁ not) refl in
       let b = held productions v tokens e fixed a (met_here source tokens e plain_name s₁ false not) in
-      let c = took_name source tokens good e (went productions v tokens e fixed b d₂) to₃ in
-      went productions v tokens e fixed c d₄
+      wider productions v tokens e fixed (went productions v tokens e fixed b d₂) (omega arith) (omega arith)
+
+  -- .. and then the name and the value are read
+  pub let_valued : {n below : ℕ} {s s₂ s₃ s₄ : Step} {t t₂ t₄ : List ℕ}
+      → Under statement n below (gives_row let_row) 1 (token name ∷ derived expression ∷ []) s t s₂ t₂
+      → s₃ ≡ taken_kind tokens ident s₂ → Part below 1 expression s₃ t₂ s₄ t₄
+      → Under statement n below (gives_row let_row) 3 [] s t s₄ t₄
+  let_valued a to₃ d₄ = went productions v tokens e (names_fixed source tokens good e) (took_name source tokens good e a to₃) d₄
 
   -- `=` `.` expression expression expression
   pub set_element : {n below : ℕ} {s s₀ s₁ s₂ s₃ s₄ : Step} {t t₂ t₃ t₄ : List ℕ} → kind_alternative statement (next_kind tokens s) ≡ 3

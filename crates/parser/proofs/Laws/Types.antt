@@ -1,19 +1,19 @@
 -- The productions of types read step by step. Assumes nothing.
-use Prim.Native.Nat.{ℕ, suc, ◌<◌, ◌≤◌}
+use Prim.Native.Nat.{ℕ, suc, ◌<◌}
 use mathlib.Core.Path.{◌≡◌, refl, ap, ◌∙◌}
 use mathlib.Core.Bool.{Bool, true, false}
 use mathlib.Core.List.{List, [], ◌∷◌}
 use native.Mathlib.Nat.{pos_of_ne-zero}
 use native.Mathlib.Omega.{arith}
-use lib.Dec.{eqb, leb, ltb}
+use lib.Dec.{eqb, ltb}
 use lib.ListN.{replicate}
 use borrow.Author.Tests.{eqb-true}
 use Rattle.lexer.specs.Tests.{and, between}
 use Rattle.lexer.specs.internal.Kinds.{ident, at, right_paren}
 use Rattle.lexer.specs.Table.{token_room}
 use Rattle.lexer.specs.internal.TokenRows.{rows_of}
-use Rattle.tree.specs.internal.RowKinds.{base_type_row, function_type_row, instance_row, named_type_row}
-use Rattle.grammar.specs.Grammars.{Symbol, token, derived, Makes, gives_row, gives_kind, no_row, Names, View}
+use Rattle.tree.specs.internal.RowKinds.{base_type_row, result_row, function_type_row, instance_row, named_type_row}
+use Rattle.grammar.specs.Grammars.{Symbol, token, derived, Makes, gives_row, gives_kind, Names, View}
 use Rattle.grammar.specs.Rows.{levels}
 use Rattle.grammar.specs.executable.Reading.{none, selected, choice}
 use Rattle.grammar.specs.internal.Nonterminals.{type, types, parenthesized, more_words}
@@ -34,10 +34,11 @@ use Rattle.parser.specs.internal.Steps.{Tokens, Within, next_kind, begins_part, 
 use Rattle.parser.specs.internal.Operators.{TypeOperator, pointer, optional, slice, result}
 use Rattle.parser.specs.internal.Steps.{Step}
 use Rattle.parser.specs.internal.Steps.{Read}
-use Rattle.parser.proofs.Laws.After.{After, went, spoken, done, list_more, list_done}
+use Rattle.parser.proofs.Laws.After.{After, went, spoken}
+use Rattle.parser.proofs.Laws.Repeated.{IsList, list_by}
 use Rattle.parser.proofs.Laws.Views.{class_low, names_fixed}
 use Rattle.parser.proofs.Laws.Gives.{barred_token, Takes, takes, vain}
-use Rattle.parser.proofs.Laws.Readers.{reached, begun_at, closed_by, rowed, some_rowed, few_numbers, none_stuck, row-deep}
+use Rattle.parser.proofs.Laws.Readers.{reached, begun_at, closed_by, rowed, some_rowed, none_stuck, row-deep}
 use Rattle.parser.proofs.Laws.Readers.{class-marks, name-marks, took_mark, took_name, took_word, spoken_by, begins_there}
 use Rattle.parser.proofs.Laws.Readers.{none_there, alternative_is}
 use Rattle.parser.proofs.Laws.Openings.{Begins, type_base_begins, type_pointer_begins, type_optional_begins, type_slice_begins}
@@ -47,14 +48,6 @@ use Rattle.parser.proofs.Laws.Openings.{type_result_begins, type_parenthesized_b
 type_rows : below (λ (k : ℕ). implies (ltb 0 (kind_number type k)) (rowed (nth type (kind_number type k) productions))) classes ≡ true
 unfolding below implies and rowed levels nth productions kind_number
 type_rows = refl
-
--- there are seven
-type_numbers : below (λ (k : ℕ). leb (kind_number type k) 7) classes ≡ true
-unfolding below and kind_number
-type_numbers = refl
-
-pub type_few : (k : ℕ) → kind_alternative type k ≤ 7
-type_few = few_numbers type 7 type_numbers
 
 -- what stands for an operator is an alternative
 pub operator_some : {a count kind : ℕ} → TypeOperator a count kind → 0 < a
@@ -89,7 +82,7 @@ module _ (source tokens : List ℕ) (good : Tokens tokens) (e : Names) where
   type_begun number is opens = begun_at source tokens good e type-choice is opens
 
   -- a mark and so many types
-  pub type_operator : {n below a count kind : ℕ} {s s₀ : Step} {t : List ℕ} → TypeOperator a count kind
+  type_operator : {n below a count kind : ℕ} {s s₀ : Step} {t : List ℕ} → TypeOperator a count kind
       → kind_alternative type (next_kind tokens s) ≡ a → Within tokens 1 s → n ≡ suc below → s₀ ≡ opened s
       → Under type n below (gives_row kind) 1 (replicate count (derived type)) s t s₀ t
   unfolding levels
@@ -97,6 +90,21 @@ module _ (source tokens : List ℕ) (good : Tokens tokens) (e : Names) where
   type_operator optional begins within level = type_begun 3 type_optional type_optional_begins begins within level refl
   type_operator slice begins within level = type_begun 4 type_slice type_slice_begins begins within level refl
   type_operator result begins within level = type_begun 5 type_result type_result_begins begins within level refl
+
+  -- .. one type, ..
+  pub marked_type : {n below a kind : ℕ} {s s₀ s₁ : Step} {t t₁ : List ℕ} → TypeOperator a 1 kind
+      → kind_alternative type (next_kind tokens s) ≡ a → Within tokens 1 s → n ≡ suc below → s₀ ≡ opened s
+      → Part below 1 type s₀ t s₁ t₁ → Under type n below (gives_row kind) 2 [] s t s₁ t₁
+  marked_type mark begins within level to₀ =
+      went productions v tokens e (names_fixed source tokens good e) (type_operator mark begins within level to₀)
+
+  -- .. or two
+  pub result_type : {n below : ℕ} {s s₀ s₁ s₂ : Step} {t t₁ t₂ : List ℕ} → kind_alternative type (next_kind tokens s) ≡ 5
+      → Within tokens 1 s → n ≡ suc below → s₀ ≡ opened s → Part below 1 type s₀ t s₁ t₁ → Part below 1 type s₁ t₁ s₂ t₂
+      → Under type n below (gives_row result_row) 3 [] s t s₂ t₂
+  result_type begins within level to₀ d₁ =
+      let fixed = names_fixed source tokens good e in
+      went productions v tokens e fixed (went productions v tokens e fixed (type_operator result begins within level to₀) d₁)
 
   -- a type of one token
   type_leaf : {n below kind : ℕ} (number : ℕ) {cs : List ℕ} {s r : Step} {t after : List ℕ}
@@ -167,22 +175,11 @@ module _ (source tokens : List ℕ) (good : Tokens tokens) (e : Names) where
       took_mark source tokens good e right_paren (went productions v tokens e fixed a₂ d₃) refl to₄
 
   -- as many types as there are
-  pub types_go : {n : ℕ} {s s' s'' : Step} {t t' t'' : List ℕ}
-      → After productions v (token_room tokens) e n n no_row 0 0 (derived types ∷ []) (derived types ∷ []) s t s' t'
-      → begins_part type tokens s' ≡ true
-      → Part n 1 type s' t' s'' t''
-      → After productions v (token_room tokens) e n n no_row 0 0 (derived types ∷ []) (derived types ∷ []) s t s'' t''
-  types_go {s' = s'} a is =
-      list_more productions v tokens e (names_fixed source tokens good e) a (λ (j k : ℕ) (read : s' ≡ Read j k).
-      types_more v e j (class_low source tokens good e j) (begins_there source tokens good e type s' is j k read))
-
-  pub types_end : {n : ℕ} {s s' : Step} {t t' : List ℕ}
-      → After productions v (token_room tokens) e n n no_row 0 0 (derived types ∷ []) (derived types ∷ []) s t s' t'
-      → begins_part type tokens s' ≡ false → Part n 0 types s t s' t'
-  types_end {s' = s'} a is =
-      let fixed = names_fixed source tokens good e in
-      done productions v tokens e fixed (list_done productions v tokens e fixed a (λ (j k : ℕ) (read : s' ≡ Read j k).
-      types_done v e j (class_low source tokens good e j) (none_there source tokens good e type s' is j k read)))
+  pub types_list : IsList source tokens e types type (λ s. begins_part type tokens s)
+  types_list =
+      list_by source tokens good e
+      (λ s j k is read. types_more v e j (class_low source tokens good e j) (begins_there source tokens good e type s is j k read))
+      (λ s j k is read. types_done v e j (class_low source tokens good e j) (none_there source tokens good e type s is j k read))
 
   -- a token that begins no type is refused
   pub type_stuck : {n : ℕ} (s : Step) {t : List ℕ} → kind_alternative type (next_kind tokens s) ≡ 0

@@ -1,7 +1,6 @@
 -- The operators of types and of expressions: by the number of the alternative, how many operands each has and which row it makes.
 -- And the expressions that are a type and its elements: which marks stand around the elements, and which row is made.
-use Rattle.std.specs.Prelude.{ℕ, eqb}
-use Rattle.lexer.specs.Tests.{pick}
+use Rattle.std.specs.Prelude.{ℕ}
 use Rattle.lexer.specs.internal.Kinds.{bar, right_bracket, left_brace, right_brace}
 use Rattle.tree.specs.internal.RowKinds.{pointer_row, optional_row, slice_type_row, result_row, binary_row, not_row, return_row, complement_row}
 use Rattle.tree.specs.internal.RowKinds.{conditional_row, member_row, slice_row, aggregate_row}
@@ -14,26 +13,21 @@ pub data TypeOperator : ℕ → ℕ → ℕ → Type 0 where
   slice : TypeOperator slice_type 1 slice_type_row
   result : TypeOperator result_type 2 result_row
 
+pub data Operation : ℕ → ℕ → ℕ → Type 0 where
+  binary : Operation binary_expression 2 binary_row
+  negation : Operation not_expression 1 not_row
+  return : Operation return_expression 1 return_row
+  complement : Operation complement_expression 1 complement_row
+  conditional : Operation conditional_expression 3 conditional_row
+  member : Operation member_expression 2 member_row
+
+-- the alternatives of an expression that are a slice and an aggregate
+abbrev pub slice_expression : ℕ
+slice_expression = 12
+
+abbrev pub aggregate_expression : ℕ
+aggregate_expression = 13
+
 pub data Elements : ℕ → ℕ → ℕ → ℕ → Type 0 where
-  slice_elements : Elements 12 bar right_bracket slice_row
-  aggregate_elements : Elements 13 left_brace right_brace aggregate_row
-
--- how many operands an operator of expressions has; an alternative that is none's has none
-unfoldable pub operand_count : ℕ → ℕ
-operand_count form =
-    pick (eqb form binary_expression) 2
-    (pick (eqb form not_expression) 1
-    (pick (eqb form return_expression) 1
-    (pick (eqb form complement_expression) 1
-    (pick (eqb form conditional_expression) 3
-    (pick (eqb form member_expression) 2 0)))))
-
--- .. and the row that it makes
-unfoldable pub operation_row : ℕ → ℕ
-operation_row form =
-    pick (eqb form binary_expression) binary_row
-    (pick (eqb form not_expression) not_row
-    (pick (eqb form return_expression) return_row
-    (pick (eqb form complement_expression) complement_row
-    (pick (eqb form conditional_expression) conditional_row
-    (pick (eqb form member_expression) member_row 0)))))
+  slice_elements : Elements slice_expression bar right_bracket slice_row
+  aggregate_elements : Elements aggregate_expression left_brace right_brace aggregate_row

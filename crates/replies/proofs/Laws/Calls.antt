@@ -50,6 +50,23 @@ got_counted (pos n) interrupted (suc counted) count h = let same : suc counted �
 got_counted (negsuc n) true counted count h = let z : ◌≡◌ {A = ℕ} 0 1 = cc in absurd (omega arith)
 got_counted (negsuc n) false counted count h = let z : ◌≡◌ {A = ℕ} 0 1 = cc in absurd (omega arith)
 
+-- what the code's own result says of a call is what these numbers say: of one that gave bytes or the end, ..
+pub counted_said : (count : ℕ) → outcome_said (Ok count) ≡ outcome_of (pos 0) false count
+unfolding outcome_of
+counted_said zero = refl
+counted_said (suc count) = refl
+
+-- .. of one that a signal interrupted, ..
+pub signal_said : failure_said kind.Interrupted ≡ outcome_of (negsuc 0) true 0
+unfolding outcome_of
+signal_said = refl
+
+-- .. and of one that failed
+pub lost_said : (why : ErrorKind) → (why ≢ kind.Interrupted) → failure_said why ≡ outcome_of (negsuc 0) false 0
+unfolding outcome_of
+lost_said kind.Interrupted other = absurd (other refl)
+lost_said _ other = refl
+
 -- after a call that was interrupted, where a retry is left
 pub tried_again : (done retries : ℕ) → (retries ≡ 0 → ⊥) → More done (retries - 1) ≡ after_call done retries Interrupted
 unfolding after_call

@@ -6,6 +6,7 @@ use mathlib.Core.Bool.{Bool, true, false}
 use mathlib.Core.List.{List, [], ◌∷◌, ◌++◌}
 use native.Mathlib.Omega.{arith}
 use lib.Dec.{ltb}
+use Rattle.std.specs.Prelude.{Option}
 use lib.ListN.{length, drop, get_or, replicate, length-append, length-drop, length-replicate}
 use lib.Seq.{get_or-drop}
 use borrow.Author.Tests.{le-leb}
@@ -245,3 +246,16 @@ pub reply_text : (script tokens rows after : List ℕ) (found : Answer) → toke
     → found ≡ (desk_result script tokens rows).answer → after ≡ (desk_result script tokens rows).rows → answer_text found after ≡ desk_text script
 unfolding desk_text
 reply_text script tokens rows after found t r a b = rw (a, b, t, r)
+
+-- .. and how much of it is written, by what the writer of an answer said
+pub reply_size : (script tokens rows after : List ℕ) (found : Answer) (room : ℕ) (said : Option ℕ) → tokens ≡ desk_tokens → rows ≡ desk_tree
+    → found ≡ (desk_result script tokens rows).answer → after ≡ (desk_result script tokens rows).rows → room ≡ text_room
+    → said ≡ written (answer_text found after) room → bytes_written said text_room ≡ length (desk_text script)
+reply_size script tokens rows after found room said t r a b full is =
+    rw (is, reply_text script tokens rows after found t r a b, full) (whole_text (desk_text script) text_room (reply_fits script))
+
+-- .. and what the output holds then
+pub reply_there : (script tokens rows after before output : List ℕ) (found : Answer) → tokens ≡ desk_tokens → rows ≡ desk_tree
+    → found ≡ (desk_result script tokens rows).answer → after ≡ (desk_result script tokens rows).rows
+    → output ≡ overwritten (answer_text found after) before → output ≡ overwritten (desk_text script) before
+reply_there script tokens rows after before output found t r a b is = rw (← reply_text script tokens rows after found t r a b) is

@@ -1,22 +1,9 @@
--- `lexer::runs::WordByteTest::passes` meets its contract, by one computed test over all bytes. Assumes nothing.
-use mathlib.Core.Path.{ap, sym, ◌∙◌}
-use mathlib.Core.Bool.{Bool, ◌||◌}
-use lib.Dec.{eqb}
-use Rattle.std.specs.Char.{is_ascii_lowercase, is_ascii_alphanumeric}
-use Rattle.lexer.specs.Tests.{and, or, between}
-use Rattle.lexer.specs.Bytes.{is_word_byte, is_letter, is_digit}
-use Rattle.lexer.proofs.Laws.Classes.{agree, same_test}
+-- `lexer::runs::WordByteTest::passes` meets its contract: the table tells it. Assumes nothing.
+use Rattle.lexer.proofs.Laws.Entries.{goes_on, goes_not_on}
 use Rattle.lexer.proofs.runs.WordByteTest.passes.Goals as goal
 
-pub returns-then-is_ascii_lowercase : goal.returns-then-is_ascii_lowercase
-unfolding is_word_byte is_letter is_digit and or between agree
-returns-then-is_ascii_lowercase c =
-    let lower = sym c.is_ascii_lowercase.ensures.value ∙ c.if-is_ascii_lowercase.true in
-    sym (ap (λ (t : Bool). t || is_word_byte c.args.b) lower)
-    ∙ same_test (λ b. is_ascii_lowercase b || is_word_byte b) is_word_byte tt _ c.ranges.b.fits
+pub returns-in-Letter : goal.returns-in-Letter
+returns-in-Letter c = goes_on _ _ c.ranges.b.fits c.of.ensures c.in-Letter.is
 
-pub returns : goal.returns
-unfolding is_word_byte is_letter is_digit and or between agree
-returns c =
-    ap (λ (t : Bool). t || eqb c.args.b 95) c.is_ascii_alphanumeric.ensures.value
-    ∙ same_test (λ b. is_ascii_alphanumeric b || eqb b 95) is_word_byte tt _ c.ranges.b.fits
+pub returns-in_default : goal.returns-in_default
+returns-in_default c = goes_not_on _ _ c.ranges.b.fits c.of.ensures c.in_default.not-Letter c.in_default.not-Digit

@@ -1,11 +1,11 @@
 -- `Reading::foreign` meets its contract. Assumes nothing.
 use mathlib.Core.Path.{refl}
 use mathlib.Core.List.{[]}
+use native.Mathlib.Numerals.{add-one}
 use native.Mathlib.Omega.{arith}
 use Rattle.grammar.specs.internal.Nonterminals.{declaration}
 use Rattle.parser.specs.internal.Steps.{taken_by}
 use Rattle.parser.proofs.Laws.Openings.{no_declaration}
-use Rattle.parser.proofs.Laws.Readers.{level_below}
 use Rattle.parser.proofs.Laws.Results.{leaves, passed, closable, row_read, some_kind}
 use Rattle.parser.proofs.Laws.Declarations.{foreign}
 use Rattle.parser.proofs.reading.Reading.foreign.Goals as goal
@@ -17,56 +17,56 @@ pub returns-in_err-sourced-clause-reads : goal.returns-in_err-sourced-clause-rea
 unfolding taken_by
 returns-in_err-sourced-clause-reads c = λ source e.
     leaves _ _ c.from_residual.ensures.1
-    (foreign source _ c.args.self.now.tokens_good e c.requires.form c.requires.stands (level_below c.requires.left_nonzero)
+    (foreign source _ c.args.self.now.tokens_good e c.requires.form c.requires.stands (add-one c.args.below)
     c.open-opened.ensures.answer c.in_err-sourced.ensures.answer refl refl passed refl passed)
 
 pub returns-in_err-marked-clause-reads : goal.returns-in_err-marked-clause-reads
 unfolding taken_by
 returns-in_err-marked-clause-reads c = λ source e.
     leaves _ _ c.from_residual-in_err-marked.ensures.1
-    (foreign source _ c.args.self.now.tokens_good e c.requires.form c.requires.stands (level_below c.requires.left_nonzero)
+    (foreign source _ c.args.self.now.tokens_good e c.requires.form c.requires.stands (add-one c.args.below)
     c.open-opened.ensures.answer c.in_ok-sourced.ensures.answer c.in_err-marked.ensures.answer refl passed refl passed)
 
 pub returns-in_err-named-clause-reads : goal.returns-in_err-named-clause-reads
 unfolding taken_by
 returns-in_err-named-clause-reads c = λ source e.
     leaves _ _ c.from_residual-in_err-named.ensures.1
-    (foreign source _ c.args.self.now.tokens_good e c.requires.form c.requires.stands (level_below c.requires.left_nonzero)
+    (foreign source _ c.args.self.now.tokens_good e c.requires.form c.requires.stands (add-one c.args.below)
     c.open-opened.ensures.answer c.in_ok-sourced.ensures.answer c.in_ok-marked.ensures.answer c.in_err-named.ensures.answer passed refl passed)
 
 pub returns-in_err-listed-clause-reads : goal.returns-in_err-listed-clause-reads
 unfolding taken_by
 returns-in_err-listed-clause-reads c = λ source e.
     leaves _ _ c.from_residual-in_err-listed.ensures.1
-    (foreign source _ c.args.self.now.tokens_good e c.requires.form c.requires.stands (level_below c.requires.left_nonzero)
+    (foreign source _ c.args.self.now.tokens_good e c.requires.form c.requires.stands (add-one c.args.below)
     c.open-opened.ensures.answer c.in_ok-sourced.ensures.answer c.in_ok-marked.ensures.answer c.in_ok-named.ensures.answer
     (c.in_err-listed.ensures.reads source e) refl passed)
 
 pub returns-in_err-arrowed-clause-reads : goal.returns-in_err-arrowed-clause-reads
 returns-in_err-arrowed-clause-reads c = λ source e.
     leaves _ _ c.from_residual-in_err-arrowed.ensures.1
-    (foreign source _ c.args.self.now.tokens_good e c.requires.form c.requires.stands (level_below c.requires.left_nonzero)
+    (foreign source _ c.args.self.now.tokens_good e c.requires.form c.requires.stands (add-one c.args.below)
     c.open-opened.ensures.answer c.in_ok-sourced.ensures.answer c.in_ok-marked.ensures.answer c.in_ok-named.ensures.answer
     (c.in_ok-listed.ensures.reads source e) c.in_err-arrowed.ensures.answer passed)
 
 pub returns-in_err-typed-clause-reads : goal.returns-in_err-typed-clause-reads
 returns-in_err-typed-clause-reads c = λ source e.
     leaves _ _ c.from_residual-in_err-typed.ensures.1
-    (foreign source _ c.args.self.now.tokens_good e c.requires.form c.requires.stands (level_below c.requires.left_nonzero)
+    (foreign source _ c.args.self.now.tokens_good e c.requires.form c.requires.stands (add-one c.args.below)
     c.open-opened.ensures.answer c.in_ok-sourced.ensures.answer c.in_ok-marked.ensures.answer c.in_ok-named.ensures.answer
     (c.in_ok-listed.ensures.reads source e) c.in_ok-arrowed.ensures.answer (c.in_err-typed.ensures.reads source e))
 
 pub close_row-requires : goal.close_row-requires
 close_row-requires c =
     closable [] _ c.args.self.now.tokens_good [] {t = c.args.rows.now} c.requires.stands
-    (foreign [] _ c.args.self.now.tokens_good [] c.requires.form c.requires.stands (level_below c.requires.left_nonzero) c.open-opened.ensures.answer
+    (foreign [] _ c.args.self.now.tokens_good [] c.requires.form c.requires.stands (add-one c.args.below) c.open-opened.ensures.answer
     c.in_ok-sourced.ensures.answer c.in_ok-marked.ensures.answer c.in_ok-named.ensures.answer (c.in_ok-listed.ensures.reads [] [])
     c.in_ok-arrowed.ensures.answer (c.in_ok-typed.ensures.reads [] []))
 
 pub returns-clause-reads : goal.returns-clause-reads
 returns-clause-reads c = λ source e.
     row_read source _ c.args.self.now.tokens_good e
-    (foreign source _ c.args.self.now.tokens_good e c.requires.form c.requires.stands (level_below c.requires.left_nonzero)
+    (foreign source _ c.args.self.now.tokens_good e c.requires.form c.requires.stands (add-one c.args.below)
     c.open-opened.ensures.answer c.in_ok-sourced.ensures.answer c.in_ok-marked.ensures.answer c.in_ok-named.ensures.answer
     (c.in_ok-listed.ensures.reads source e) c.in_ok-arrowed.ensures.answer (c.in_ok-typed.ensures.reads source e))
     (omega arith) c.close_row.ensures.answer c.close_row.ensures.table

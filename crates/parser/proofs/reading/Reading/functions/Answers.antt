@@ -1,45 +1,41 @@
 -- `Reading::functions` meets its contract. Assumes nothing.
-use mathlib.Core.Path.{sym, ◌∙◌}
+use mathlib.Core.Path.{◌≡◌, refl, sym}
+use lib.Dec.{eqb}
 use borrow.Author.Tests.{eqb-true}
-use Rattle.grammar.specs.Nurl.{productions}
-use Rattle.parser.proofs.Laws.After.{start, after_within}
-use Rattle.parser.proofs.Laws.Views.{names_fixed}
-use Rattle.parser.proofs.Laws.Loops.{reads_falls}
-use Rattle.parser.proofs.Laws.Results.{leaves, wide}
-use Rattle.parser.proofs.Laws.Functions.{functions_go, at_kind, functions_end}
+use Rattle.std.proofs.Common.{rules, of_calls}
+use Rattle.lexer.specs.Tests.{pick}
+use Rattle.lexer.specs.internal.Kinds.{at as atSign}
+use Rattle.grammar.specs.internal.Nonterminals.{functions, function, methods, method}
+use Rattle.parser.specs.internal.Presence.{is_required}
+use Rattle.parser.specs.internal.Readers.{Stands, ReadsBy}
+use Rattle.parser.specs.internal.Steps.{next_kind, step_at}
+use Rattle.parser.proofs.Laws.Functions.{bodied_list}
+use Rattle.parser.proofs.Laws.Repeated.{goes_on, repeats_by}
+use Rattle.parser.proofs.Laws.Results.{wide}
 use Rattle.parser.proofs.reading.Reading.functions.Goals as goal
 
-pub loop-rows-init : goal.loop-rows-init
-loop-rows-init c =
-    start productions _ _ _ (names_fixed c.args.self.now.source.now _ c.args.self.now.tokens_good _) c.requires
-
-pub function-requires : goal.function-requires
-function-requires c = record {
-  stands = wide (after_within productions _ _ _ (names_fixed c.args.self.now.source.now _ c.args.self.now.tokens_good _) c.loop-rows.invariant);
-  at_sign = eqb-true _ _ (sym c.next_is.ensures ∙ c.loop-rows-test.true);
-}
-
-pub returns-in_err-place-clause-reads : goal.returns-in_err-place-clause-reads
-returns-in_err-place-clause-reads c =
-    leaves _ _ c.from_residual.ensures.1
-    (functions_go c.args.self.now.source.now _ c.args.self.now.tokens_good _ c.loop-rows.invariant
-    (sym c.next_is.ensures ∙ c.loop-rows-test.true) c.in_err-place.ensures.reads)
-
-pub loop-rows-smaller : goal.loop-rows-smaller
-loop-rows-smaller c =
-    reads_falls _ c.in_ok-place.ensures.reads
-    (at_kind _ (sym c.next_is.ensures ∙ c.loop-rows-test.true))
-
-pub loop-rows-preserved : goal.loop-rows-preserved
-loop-rows-preserved c =
-    functions_go c.args.self.now.source.now _ c.args.self.now.tokens_good _ c.loop-rows.invariant
-    (sym c.next_is.ensures ∙ c.loop-rows-test.true) c.in_ok-place.ensures.reads
+pub repeated-requires : goal.repeated-requires
+repeated-requires c κs = (
+  (refl, tt),
+  (
+    c.requires,
+    (
+      search (of_calls, rules),
+      λ of rows at is stands asks.
+          let there : Stands of.now 1 at = rw is (wide stands) in
+          let begins : next_kind of.now.tokens.now (step_at at) ≡ atSign = eqb-true _ _ (sym asks.1) in (
+            search rules,
+            λ result after one.
+                let part : ReadsBy of.now c.args.left 1 (pick (is_required c.args.bodies) function method) at rows.now result after.now = search rules in
+                goes_on _ of _ _ _ (pick (is_required c.args.bodies) function method) at result _ _ is part,
+          ),
+    ),
+  ),
+)
 
 pub returns-clause-reads : goal.returns-clause-reads
 returns-clause-reads c =
-    functions_end c.args.self.now.source.now _ c.args.self.now.tokens_good _ c.loop-rows.invariant
-    (sym c.next_is.ensures ∙ c.loop-rows-test.false)
-
-pub returns-clause-arrives : goal.returns-clause-arrives
-returns-clause-arrives c =
-    after_within productions _ _ _ (names_fixed c.args.self.now.source.now _ c.args.self.now.tokens_good _) c.loop-rows.invariant
+    c.repeated.ensures.reads _ _ _
+    (repeats_by c.args.self.now _ (pick (is_required c.args.bodies) functions methods) (pick (is_required c.args.bodies) function method)
+    (λ r s. eqb (next_kind r.tokens.now s) atSign) (λ of at b asks. asks.1)
+    (λ of rows after at result one. search rules) (bodied_list _ _ c.args.self.now.tokens_good _ (is_required c.args.bodies)))

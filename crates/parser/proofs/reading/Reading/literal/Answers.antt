@@ -1,9 +1,9 @@
 -- `Reading::literal` meets its contract. Assumes nothing.
-use native.Mathlib.Nat.{pos_of_ne-zero}
+use mathlib.Core.Path.{◌∙◌}
+use native.Mathlib.Numerals.{add-one}
 use Rattle.grammar.specs.internal.Nonterminals.{expression}
-use Rattle.parser.proofs.Laws.Readers.{level_below}
 use Rattle.parser.proofs.Laws.Openings.{no_expression}
-use Rattle.parser.proofs.Laws.Results.{some_kind}
+use Rattle.parser.proofs.Laws.Results.{no_level, some_kind}
 use Rattle.parser.proofs.Laws.Expressions.{literal_here, none_here, literal_leaf, literal_stuck, literal-deep}
 use Rattle.parser.proofs.reading.Reading.literal.Goals as goal
 
@@ -13,12 +13,11 @@ returns-then-ne-clause-reads c = λ source e.
     (literal_stuck source _ c.args.self.now.tokens_good e _
     (none_here c.expression_form.result c.kind.ensures c.expression_form.ensures c.ne.ensures c.if-ne.true))
 
-pub returns-then-left-eq0-clause-reads : goal.returns-then-left-eq0-clause-reads
-returns-then-left-eq0-clause-reads c = λ source e.
-    rw c.too_deep.ensures
+pub returns-in_err-below-clause-reads : goal.returns-in_err-below-clause-reads
+returns-in_err-below-clause-reads c = λ source e.
+    no_level _ _ c.from_residual.ensures.1 c.in_err-below.ensures.stops
     (literal-deep source _ c.args.self.now.tokens_good e _
-    (literal_here c.expression_form.result c.kind.ensures c.expression_form.ensures c.ne.ensures c.if-ne.false)
-    c.if-left-eq0.true)
+    (literal_here c.expression_form.result c.kind.ensures c.expression_form.ensures c.ne.ensures c.if-ne.false))
 
 pub leaf-requires-clause-some : goal.leaf-requires-clause-some
 leaf-requires-clause-some c =
@@ -29,4 +28,4 @@ pub returns-clause-reads : goal.returns-clause-reads
 returns-clause-reads c = λ source e.
     literal_leaf source _ c.args.self.now.tokens_good e
     (literal_here c.expression_form.result c.kind.ensures c.expression_form.ensures c.ne.ensures c.if-ne.false)
-    c.requires (level_below (pos_of_ne-zero c.if-left-eq0.false)) c.leaf.ensures.answer c.leaf.ensures.table
+    c.requires (c.in_ok-below.ensures.goes ∙ add-one _) c.leaf.ensures.answer c.leaf.ensures.table

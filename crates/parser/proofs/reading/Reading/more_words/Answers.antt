@@ -13,7 +13,8 @@ use Rattle.parser.proofs.Laws.Loops.{ahead}
 use Rattle.parser.proofs.reading.Reading.more_words.Goals as goal
 use Rattle.parser.proofs.reading.Reading.more_words.Goals.{In-loop-words}
 use Rattle.lexer.specs.internal.TokenRows.{kind_at}
-use mathlib.Core.Path.{◌≡◌}
+use mathlib.Core.Path.{◌≡◌, refl, sym, ◌∙◌}
+use Rattle.parser.proofs.Laws.Questions.{words_go_on, words_stop}
 use mathlib.Core.Bool.{true}
 
 -- what the loop's test tells where it holds
@@ -22,8 +23,8 @@ unfolding next_kind
 word c = rw (← c.kind.ensures, ← c.has.ensures) c.loop-words-test.true
 
 pub loop-words-init : goal.loop-words-init
-loop-words-init c = λ n table source e.
-    start productions _ _ e (names_fixed source _ c.args.self.now.tokens_good e) c.requires
+loop-words-init c =
+    ((λ n table source e. start productions _ _ e (names_fixed source _ c.args.self.now.tokens_good e) c.requires), (λ source. refl))
 
 pub overflow_add-place : goal.overflow_add-place
 overflow_add-place c =
@@ -44,16 +45,27 @@ loop-words-smaller c =
 
 pub loop-words-preserved : goal.loop-words-preserved
 unfolding taken_by next_kind
-loop-words-preserved c = λ n table source e.
-    let is = word (goal.at.loop-words-preserved c).In-loop-words in
-    words_more source _ c.args.self.now.tokens_good e (with_keywords c.args.words) (c.loop-words.invariant n table source e) is (rw is)
+loop-words-preserved c =
+    let is = word (goal.at.loop-words-preserved c).In-loop-words in (
+      (λ n table source e.
+          words_more source _ c.args.self.now.tokens_good e (with_keywords c.args.words) (c.loop-words.invariant.0 n table source e) is (rw is)),
+      (λ source. words_go_on (with_keywords c.args.words) source c.args.self.now.tokens.now c.loop-words.place.token is
+          ∙ c.loop-words.invariant.1 source),
+    )
 
 pub returns-clause-reads : goal.returns-clause-reads
 returns-clause-reads c = λ n table source e.
     done productions _ _ e (names_fixed source _ c.args.self.now.tokens_good e)
-    (words_done source _ c.args.self.now.tokens_good e (with_keywords c.args.words) (c.loop-words.invariant n table source e)
+    (words_done source _ c.args.self.now.tokens_good e (with_keywords c.args.words) (c.loop-words.invariant.0 n table source e)
     (rw (← c.kind.ensures, ← c.has.ensures) c.loop-words-test.false))
 
 pub returns-clause-stands : goal.returns-clause-stands
 returns-clause-stands c =
-    after_within productions _ _ [] (names_fixed [] _ c.args.self.now.tokens_good []) (c.loop-words.invariant 0 [] [] [])
+    after_within productions _ _ [] (names_fixed [] _ c.args.self.now.tokens_good []) (c.loop-words.invariant.0 0 [] [] [])
+
+pub returns-clause-ends : goal.returns-clause-ends
+unfolding next_kind
+returns-clause-ends c = λ source.
+    sym (words_stop (with_keywords c.args.words) source c.args.self.now.tokens.now c.loop-words.place.token
+    (rw (← c.kind.ensures, ← c.has.ensures) c.loop-words-test.false))
+    ∙ c.loop-words.invariant.1 source

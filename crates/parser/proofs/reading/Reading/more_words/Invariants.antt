@@ -1,5 +1,10 @@
--- What the loop of `Reading::more_words` keeps: the words up to here are read, whatever the table is. Assumes nothing.
-use Prim.Native.Nat.{ℕ}
+-- What the loop of `Reading::more_words` keeps: the words up to here are read, whatever the table is, and with those to come make the whole. Assumes nothing.
+use Prim.Native.Nat.{ℕ, ◌+◌}
+use mathlib.Core.Path.{◌≡◌}
+use lib.ListN.{drop}
+use Rattle.lexer.specs.Items.{items}
+use Rattle.grammar.specs.Questions.{run_of}
+use Rattle.parser.specs.internal.Steps.{word_kinds}
 use mathlib.Core.List.{List, [], ◌∷◌}
 use Rattle.lexer.specs.Table.{token_room}
 use Rattle.lexer.specs.internal.TokenRows.{rows_of}
@@ -16,9 +21,12 @@ use Rattle.parser.proofs.reading.Reading.more_words.Given as goal
 
 abbrev pub invariant-loop-words : goal.invariant-loop-words
 invariant-loop-words l =
-    (n : ℕ) (table source : List ℕ) (e : Names) → After productions (view_of language17 source (rows_of l.self.tokens.now)) (token_room l.self.tokens.now)
+    ((n : ℕ) (table source : List ℕ) (e : Names) → After productions (view_of language17 source (rows_of l.self.tokens.now)) (token_room l.self.tokens.now)
     e n n no_row 0 0 (derived (more_of (with_keywords l.words)) ∷ []) (derived (more_of (with_keywords l.words)) ∷ []) (step_at l.initial.place) table
-    (step_at l.place) table
+    (step_at l.place) table)
+    × ((source : List ℕ) → let ts = items source (rows_of l.self.tokens.now) in
+    l.place.token + run_of (word_kinds (with_keywords l.words)) (drop l.place.token ts)
+    ≡ l.initial.place.token + run_of (word_kinds (with_keywords l.words)) (drop l.initial.place.token ts))
 
 abbrev pub decreases-loop-words : goal.decreases-loop-words
 decreases-loop-words l = ahead l.self.tokens.now (step_at l.place)

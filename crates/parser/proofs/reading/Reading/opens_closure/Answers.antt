@@ -35,8 +35,7 @@ returns-in-19 c = λ source e.
 pub returns-in_default : goal.returns-in_default
 unfolding next_kind or
 returns-in_default c = λ source e.
-    let paren = c.in_default.in_default-own.rest.1 in
-    let no-paren = first_differs c.args.self.now.tokens.now c.args.from.token left_paren (at ∷ []) (λ q. paren (c.kind.ensures ∙ q)) in
-    let none = none-among closure_kinds c.kind.result c.in_default.in_default-own.rest.0.1 in
+    let no-paren = first_differs c.args.self.now.tokens.now c.args.from.token left_paren (at ∷ []) (rw (← c.kind.ensures) search) in
+    let none = none-among closure_kinds c.kind.result search in
     rw (← closure_opens c.args.self.now.tokens.now (step_at c.args.from) _ _ refl source e, ← c.kind.ensures, none, no-paren)
     c.names_before_arrow.ensures

@@ -1,45 +1,40 @@
 -- `Reading::parameters` meets its contract. Assumes nothing.
-use mathlib.Core.Path.{sym, ◌∙◌}
+use mathlib.Core.Path.{◌≡◌, refl, sym}
+use mathlib.Core.Bool.{true}
 use mathlib.Core.List.{[]}
-use Rattle.grammar.specs.Nurl.{productions}
-use Rattle.grammar.specs.internal.Nonterminals.{type}
-use Rattle.parser.proofs.Laws.After.{start, after_within}
-use Rattle.parser.proofs.Laws.Views.{names_fixed}
-use Rattle.parser.proofs.Laws.Loops.{reads_falls, begins_kind}
-use Rattle.parser.proofs.Laws.Openings.{no_type}
-use Rattle.parser.proofs.Laws.Results.{leaves}
-use Rattle.parser.proofs.Laws.Parameters.{parameters_go, parameters_end}
+use Rattle.std.proofs.Common.{rules, of_calls}
+use Rattle.lexer.specs.Tests.{pick}
+use Rattle.grammar.specs.internal.Nonterminals.{parameters, parameter, fields, field, type}
+use Rattle.parser.specs.internal.Presence.{is_required}
+use Rattle.parser.specs.internal.Readers.{Stands, ReadsKindsBy}
+use Rattle.parser.specs.internal.Steps.{begins_part, step_at}
+use Rattle.parser.proofs.Laws.Parameters.{named_list}
+use Rattle.parser.proofs.Laws.Repeated.{goes_on, repeats_kinds}
 use Rattle.parser.proofs.reading.Reading.parameters.Goals as goal
 
-pub loop-rows-init : goal.loop-rows-init
-loop-rows-init c = λ source e.
-    start productions _ _ e (names_fixed source _ c.args.self.now.tokens_good e) c.requires
-
-pub parameter-requires : goal.parameter-requires
-parameter-requires c = record {
-  stands = after_within productions _ _ [] (names_fixed [] _ c.args.self.now.tokens_good []) (c.loop-rows.invariant [] []);
-  begins = sym c.begins_type.ensures ∙ c.loop-rows-test.true;
-}
-
-pub returns-in_err-place-clause-reads : goal.returns-in_err-place-clause-reads
-returns-in_err-place-clause-reads c = λ source e.
-    leaves _ _ c.from_residual.ensures.1
-    (parameters_go source _ c.args.self.now.tokens_good e (c.loop-rows.invariant source e) (sym c.begins_type.ensures ∙ c.loop-rows-test.true)
-    (c.in_err-place.ensures.reads source e))
-
-pub loop-rows-smaller : goal.loop-rows-smaller
-loop-rows-smaller c =
-    reads_falls _ (c.in_ok-place.ensures.reads [] []) (begins_kind type no_type _ _ (sym c.begins_type.ensures ∙ c.loop-rows-test.true))
-
-pub loop-rows-preserved : goal.loop-rows-preserved
-loop-rows-preserved c = λ source e.
-    parameters_go source _ c.args.self.now.tokens_good e (c.loop-rows.invariant source e) (sym c.begins_type.ensures ∙ c.loop-rows-test.true)
-    (c.in_ok-place.ensures.reads source e)
+pub repeated-requires : goal.repeated-requires
+repeated-requires c κs = (
+  (refl, tt),
+  (
+    c.requires,
+    (
+      search (of_calls, rules),
+      λ of rows at is stands asks.
+          let there : Stands of.now 0 at = rw is stands in
+          let begins : begins_part type of.now.tokens.now (step_at at) ≡ true = sym asks.1 in (
+            search rules,
+            λ result after one.
+                let part : ReadsKindsBy of.now c.args.left 1 (pick (is_required c.args.naming) parameter field) at rows.now result after.now =
+                search rules in
+                goes_on _ of [] [] _ (pick (is_required c.args.naming) parameter field) at result _ _ is (part [] []),
+          ),
+    ),
+  ),
+)
 
 pub returns-clause-reads : goal.returns-clause-reads
 returns-clause-reads c = λ source e.
-    parameters_end source _ c.args.self.now.tokens_good e (c.loop-rows.invariant source e) (sym c.begins_type.ensures ∙ c.loop-rows-test.false)
-
-pub returns-clause-arrives : goal.returns-clause-arrives
-returns-clause-arrives c =
-    after_within productions _ _ [] (names_fixed [] _ c.args.self.now.tokens_good []) (c.loop-rows.invariant [] [])
+    c.repeated.ensures.reads source e _
+    (repeats_kinds c.args.self.now source e _ (pick (is_required c.args.naming) parameters fields)
+    (pick (is_required c.args.naming) parameter field) (λ r s. begins_part type r.tokens.now s) (λ of at b asks. asks.1)
+    (λ of rows after at result one. search rules) (named_list source _ c.args.self.now.tokens_good e (is_required c.args.naming)))

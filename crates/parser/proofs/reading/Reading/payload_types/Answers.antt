@@ -1,41 +1,33 @@
 -- `Reading::payload_types` meets its contract. Assumes nothing.
-use mathlib.Core.Path.{sym, ◌∙◌}
+use mathlib.Core.Path.{refl}
 use mathlib.Core.List.{[]}
-use Rattle.grammar.specs.Nurl.{productions}
-use Rattle.parser.proofs.Laws.After.{start, after_within}
-use Rattle.parser.proofs.Laws.Views.{names_fixed}
-use Rattle.parser.proofs.Laws.Loops.{reads_falls}
-use Rattle.parser.proofs.Laws.Results.{leaves, wide}
-use Rattle.parser.proofs.Laws.Definitions.{payload_types_go, payload_kind, payload_types_end}
+use Rattle.std.proofs.Common.{rules, of_calls}
+use Rattle.grammar.specs.internal.Nonterminals.{payload_types, type}
+use Rattle.parser.specs.internal.Steps.{payload_begins}
+use Rattle.parser.specs.internal.Readers.{names_of}
+use Rattle.parser.proofs.Laws.Definitions.{payload_types_list}
+use Rattle.parser.proofs.Laws.Repeated.{goes_on, repeats_by}
+use Rattle.parser.proofs.Laws.Results.{wide}
 use Rattle.parser.proofs.reading.Reading.payload_types.Goals as goal
 
-pub loop-rows-init : goal.loop-rows-init
-loop-rows-init c =
-    start productions _ _ _ (names_fixed c.args.self.now.source.now _ c.args.self.now.tokens_good _) c.requires
-
-pub read_type-requires : goal.read_type-requires
-read_type-requires c =
-    wide (after_within productions _ _ _ (names_fixed c.args.self.now.source.now _ c.args.self.now.tokens_good _) c.loop-rows.invariant)
-
-pub returns-in_err-place-clause-reads : goal.returns-in_err-place-clause-reads
-returns-in_err-place-clause-reads c =
-    leaves _ _ c.from_residual.ensures.1
-    (payload_types_go c.args.self.now.source.now _ c.args.self.now.tokens_good _ c.loop-rows.invariant (sym c.begins_payload_type.ensures ∙ c.loop-rows-test.true)
-    (c.in_err-place.ensures.reads _ _))
-
-pub loop-rows-smaller : goal.loop-rows-smaller
-loop-rows-smaller c =
-    reads_falls _ (c.in_ok-place.ensures.reads [] []) (payload_kind c.args.self.now.source.now _ c.args.self.now.tokens_good _ _ (sym c.begins_payload_type.ensures ∙ c.loop-rows-test.true))
-
-pub loop-rows-preserved : goal.loop-rows-preserved
-loop-rows-preserved c =
-    payload_types_go c.args.self.now.source.now _ c.args.self.now.tokens_good _ c.loop-rows.invariant (sym c.begins_payload_type.ensures ∙ c.loop-rows-test.true)
-    (c.in_ok-place.ensures.reads _ _)
+pub repeated-requires : goal.repeated-requires
+repeated-requires c κs = (
+  (refl, tt),
+  (
+    c.requires,
+    (
+      search (of_calls, rules),
+      λ of rows at is stands asks. (
+        rw is (wide stands),
+        λ result after one. goes_on _ of [] [] _ type at result _ _ is (one.1.0 [] []),
+      ),
+    ),
+  ),
+)
 
 pub returns-clause-reads : goal.returns-clause-reads
 returns-clause-reads c =
-    payload_types_end c.args.self.now.source.now _ c.args.self.now.tokens_good _ c.loop-rows.invariant (sym c.begins_payload_type.ensures ∙ c.loop-rows-test.false)
-
-pub returns-clause-arrives : goal.returns-clause-arrives
-returns-clause-arrives c =
-    after_within productions _ _ _ (names_fixed c.args.self.now.source.now _ c.args.self.now.tokens_good _) c.loop-rows.invariant
+    c.repeated.ensures.reads _ _ _
+    (repeats_by c.args.self.now _ payload_types type (λ r s. payload_begins r.source.now r.tokens.now (names_of r) s)
+    (λ of at b asks. asks.1) (λ of rows after at result one. one.1.0 _ _)
+    (payload_types_list _ _ c.args.self.now.tokens_good _))

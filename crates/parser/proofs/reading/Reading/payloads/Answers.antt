@@ -20,12 +20,12 @@ pub returns-in_err-place-clause-reads : goal.returns-in_err-place-clause-reads
 returns-in_err-place-clause-reads c = λ source e.
     leaves _ _ c.from_residual.ensures.1
     (payloads_go source _ c.args.self.now.tokens_good e _ c.loop-test.true (c.loop.invariant source e)
-    (sym c.begins_payload.ensures ∙ c.if-not-begins_payload.false) (c.in_err-place.ensures.reads source e))
+    (sym c.next_is_either.ensures ∙ c.if-not-next_is_either.false) (c.in_err-place.ensures.reads source e))
 
 pub loop-preserved : goal.loop-preserved
 loop-preserved c = λ source e.
     payloads_go source _ c.args.self.now.tokens_good e _ c.loop-test.true (c.loop.invariant source e)
-    (sym c.begins_payload.ensures ∙ c.if-not-begins_payload.false) (c.in_ok-place.ensures.reads source e)
+    (sym c.next_is_either.ensures ∙ c.if-not-next_is_either.false) (c.in_ok-place.ensures.reads source e)
 
 pub returns-after-loop-clause-reads : goal.returns-after-loop-clause-reads
 returns-after-loop-clause-reads c = λ source e.
@@ -34,10 +34,10 @@ returns-after-loop-clause-reads c = λ source e.
 pub returns-after-loop-clause-arrives : goal.returns-after-loop-clause-arrives
 returns-after-loop-clause-arrives c = after_within productions _ _ [] (names_fixed [] _ c.args.self.now.tokens_good []) (c.loop.invariant [] [])
 
-pub returns-then-not-begins_payload-clause-reads : goal.returns-then-not-begins_payload-clause-reads
-returns-then-not-begins_payload-clause-reads c = λ source e.
-    payloads_end source _ c.args.self.now.tokens_good e _ (c.loop.invariant source e) (sym c.begins_payload.ensures ∙ c.if-not-begins_payload.true)
+pub returns-then-not-next_is_either-clause-reads : goal.returns-then-not-next_is_either-clause-reads
+returns-then-not-next_is_either-clause-reads c = λ source e.
+    payloads_end source _ c.args.self.now.tokens_good e _ (c.loop.invariant source e) (sym c.next_is_either.ensures ∙ c.if-not-next_is_either.true)
 
-pub returns-then-not-begins_payload-clause-arrives : goal.returns-then-not-begins_payload-clause-arrives
-returns-then-not-begins_payload-clause-arrives c =
+pub returns-then-not-next_is_either-clause-arrives : goal.returns-then-not-next_is_either-clause-arrives
+returns-then-not-next_is_either-clause-arrives c =
     after_within productions _ _ [] (names_fixed [] _ c.args.self.now.tokens_good []) (c.loop.invariant [] [])

@@ -1,5 +1,4 @@
 -- What the loop of `Reading::program` keeps. Assumes nothing.
-use Prim.Native.Nat.{◌-◌}
 use mathlib.Core.List.{[], ◌∷◌}
 use Rattle.lexer.specs.Table.{token_room}
 use Rattle.lexer.specs.internal.TokenRows.{rows_of}
@@ -18,7 +17,7 @@ use Rattle.parser.proofs.reading.Reading.program.Given as goal
 abbrev pub invariant-loop-rows : goal.invariant-loop-rows
 invariant-loop-rows l =
     After productions (view_of language17 l.self.source.now (rows_of l.self.tokens.now)) (token_room l.self.tokens.now) (names_of l.self)
-    l.left (l.left - 1) (gives_row program_row) 0 1 (derived program ∷ []) (derived declarations ∷ [])
+    l.left l.below (gives_row program_row) 0 1 (derived program ∷ []) (derived declarations ∷ [])
     (Read 0 0) l.initial.rows (step_at l.place) l.rows
 
 abbrev pub decreases-loop-rows : goal.decreases-loop-rows

@@ -1,42 +1,32 @@
 -- `Reading::variants` meets its contract. Assumes nothing.
-use mathlib.Core.Path.{sym, ◌∙◌}
-use Rattle.grammar.specs.Nurl.{productions}
-use Rattle.parser.proofs.Laws.After.{start, after_within}
-use Rattle.parser.proofs.Laws.Views.{names_fixed}
-use Rattle.parser.proofs.Laws.Loops.{reads_falls}
-use Rattle.parser.proofs.Laws.Results.{leaves}
-use Rattle.parser.proofs.Laws.Definitions.{variants_go, plain_kind, variants_end}
+use mathlib.Core.Path.{refl, sym}
+use Rattle.std.proofs.Common.{rules, of_calls}
+use Rattle.grammar.specs.Nurl.{plain_name}
+use Rattle.grammar.specs.internal.Nonterminals.{variants, variant}
+use Rattle.parser.specs.internal.Steps.{asked_at}
+use Rattle.parser.specs.internal.Readers.{names_of}
+use Rattle.parser.proofs.Laws.Definitions.{variants_list}
+use Rattle.parser.proofs.Laws.Repeated.{goes_on, repeats_by}
 use Rattle.parser.proofs.reading.Reading.variants.Goals as goal
 
-pub loop-rows-init : goal.loop-rows-init
-loop-rows-init c =
-    start productions _ _ _ (names_fixed c.args.self.now.source.now _ c.args.self.now.tokens_good _) c.requires
-
-pub variant-requires : goal.variant-requires
-variant-requires c = record {
-  stands = after_within productions _ _ _ (names_fixed c.args.self.now.source.now _ c.args.self.now.tokens_good _) c.loop-rows.invariant;
-  named = sym c.plain_name.ensures ∙ c.loop-rows-test.true;
-}
-
-pub returns-in_err-place-clause-reads : goal.returns-in_err-place-clause-reads
-returns-in_err-place-clause-reads c =
-    leaves _ _ c.from_residual.ensures.1
-    (variants_go c.args.self.now.source.now _ c.args.self.now.tokens_good _ c.loop-rows.invariant (sym c.plain_name.ensures ∙ c.loop-rows-test.true)
-    c.in_err-place.ensures.reads)
-
-pub loop-rows-smaller : goal.loop-rows-smaller
-loop-rows-smaller c =
-    reads_falls _ c.in_ok-place.ensures.reads (plain_kind c.args.self.now.source.now _ c.args.self.now.tokens_good _ _ (sym c.plain_name.ensures ∙ c.loop-rows-test.true))
-
-pub loop-rows-preserved : goal.loop-rows-preserved
-loop-rows-preserved c =
-    variants_go c.args.self.now.source.now _ c.args.self.now.tokens_good _ c.loop-rows.invariant (sym c.plain_name.ensures ∙ c.loop-rows-test.true)
-    c.in_ok-place.ensures.reads
+pub repeated-requires : goal.repeated-requires
+repeated-requires c κs = (
+  (refl, tt),
+  (
+    c.requires,
+    (
+      search (of_calls, rules),
+      λ of rows at is stands asks. (
+        (rw is stands, sym asks.1),
+        λ result after one. goes_on _ of _ _ _ variant at result _ _ is one.1.0,
+      ),
+    ),
+  ),
+)
 
 pub returns-clause-reads : goal.returns-clause-reads
 returns-clause-reads c =
-    variants_end c.args.self.now.source.now _ c.args.self.now.tokens_good _ c.loop-rows.invariant (sym c.plain_name.ensures ∙ c.loop-rows-test.false)
-
-pub returns-clause-arrives : goal.returns-clause-arrives
-returns-clause-arrives c =
-    after_within productions _ _ _ (names_fixed c.args.self.now.source.now _ c.args.self.now.tokens_good _) c.loop-rows.invariant
+    c.repeated.ensures.reads _ _ _
+    (repeats_by c.args.self.now _ variants variant (λ r s. asked_at plain_name r.source.now r.tokens.now (names_of r) s)
+    (λ of at b asks. asks.1) (λ of rows after at result one. one.1.0)
+    (variants_list _ _ c.args.self.now.tokens_good _))

@@ -1,5 +1,6 @@
 -- `Words::has` meets its contract. Assumes nothing.
 use mathlib.Core.Path.{sym}
+use native.Mathlib.Omega.{arith}
 use mathlib.Core.Logic.{inl, inr}
 use Rattle.parser.specs.internal.Words.{with_keywords}
 use Rattle.parser.proofs.Laws.Kinds.{word_ident, word_boolean, word_keyword, no_word}
@@ -15,6 +16,4 @@ pub returns-in_default-matches : goal.returns-in_default-matches
 returns-in_default-matches c = rw (c.in-2.is, c.in_default-matches.is, word_keyword)
 
 pub returns-in_default : goal.returns-in_default
-returns-in_default c =
-    let no = c.in_default.in_default-own.rest in
-    sym (no_word (with_keywords c.args.self) c.args.kind (λ q. no.0.1 (inl q)) (λ q. no.0.1 (inr q)) no.1)
+returns-in_default c = sym (no_word (with_keywords c.args.self) c.args.kind (grind arith) (grind arith) (grind arith))

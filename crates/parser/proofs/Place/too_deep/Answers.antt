@@ -1,8 +1,0 @@
--- `Place::too_deep` meets its contract. Assumes nothing.
-use mathlib.Core.Path.{refl}
-use Rattle.parser.specs.internal.Steps.{refused_at}
-use Rattle.parser.proofs.Place.too_deep.Goals as goal
-
-pub returns : goal.returns
-unfolding refused_at
-returns c = refl
