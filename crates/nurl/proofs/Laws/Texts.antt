@@ -6,19 +6,24 @@ use mathlib.Core.Bool.{Bool, true, false}
 use mathlib.Core.List.{List, [], ◌∷◌, ◌++◌, append_assoc, append-nil}
 use native.Mathlib.Omega.{arith}
 use native.Mathlib.Numerals.{add-one, unary_clauses}
-use lib.Dec.{ltb}
+use lib.Dec.{leb, ltb}
 use lib.ListN.{length, take, drop, set, length-append, length-take, length-drop, drop_of_length-le}
 use lib.Seq.{take_all, take-append-le, set_at, drop-cons}
 use borrow.Author.Tests.{ltb-true, ltb-false, lt-ltb, le-ltb}
 use Rattle.std.specs.Prelude.{Option, Some, None}
 use Rattle.std.proofs.lemmas.Bool.Decides.{nat_tests}
 use Rattle.std.proofs.lemmas.Grind.{common_steps}
+use Rattle.lexer.specs.Tests.{pick}
 use Rattle.tree.specs.TreeTable.{tree_row_at}
 use Rattle.nurl.specs.Texts.{digit, digits_within, decimal, row_line, row_lines, written, overwritten}
 use Rattle.nurl.specs.declared.text.Text.{Text}
 use Rattle.nurl.specs.internal.Writing.{Holds, Appends, Writes, reached}
 
 -- what is written tells of the text
+written_by : (text : List ℕ) (room : ℕ) (t : Bool) → leb (length text) room ≡ t → written text room ≡ pick t (Some (length text)) None
+unfolding written
+written_by text room t h = rw h
+
 pub fits_whole : (text : List ℕ) (room at : ℕ) → Some at ≡ written text room → (at ≡ length text) × (length text ≤ room)
 unfolding written
 fits_whole text room at h = grind (arith, nat_tests)

@@ -260,6 +260,19 @@ module _ (g : List Production) (v : View) (tokens : List ℕ) (e : Names) (fixed
   unheld (stopped7 d l) fails = stopped7 d l
   unheld (passed_on l) fails = passed_on l
 
+  -- a part that cannot be read here: the token is refused
+  pub barred : {n below least more y : ℕ} {m : Makes} {ts ss us : List Symbol} {s s' : Step} {t t' : List ℕ}
+      → After g v (token_room tokens) e n below m least more ts (derived y ∷ ss) s t s' t'
+      → ((j k : ℕ) → s' ≡ Read j k → choice g v e y j ≡ none)
+      → After g v (token_room tokens) e n below m least more ts us s t (refused_at 6 s') t'
+  unfolding refused_at wrapped onward
+  barred {below = below} {y = y} {m = m} {ss = ss} (going {r = r} {j = j} {k = k} {table = t} {current = t'} rows f at is from few to)
+      out =
+      stopped6 (f (stuck j) (gives_none g v e fixed below y j ss (out j k refl))) (put-length (levels m + r) rows t t' is)
+  barred (stopped6 d l) out = stopped6 d l
+  barred (stopped7 d l) out = stopped7 d l
+  barred (passed_on l) out = passed_on l
+
   -- fewer tokens are asked for, and more rows allowed
   pub wider : {n below least more least' more' : ℕ} {m : Makes} {ts ss : List Symbol} {s s' : Step} {t t' : List ℕ}
       → After g v (token_room tokens) e n below m least more ts ss s t s' t' → least' ≤ least → more ≤ more'
@@ -328,6 +341,14 @@ module _ (g : List Production) (v : View) (tokens : List ℕ) (e : Names) (fixed
   unfolding refused_at
   deep-at (Read j k) out = refused7 (out j k refl) refl
   deep-at (Refused number place) out = readings.refused_before refl
+
+  -- what a reader reaches is at a token of the table, with no more rows than are allowed
+  pub reads_within : {n least more : ℕ} {ts : List Symbol} {s s' : Step} {t t' : List ℕ}
+      → Reads g v (token_room tokens) e n least more ts s t s' t' → Within tokens more s'
+  reads_within (read d at is from few to) = inside few to
+  reads_within (refused6 d l) = elsewhere
+  reads_within (refused7 d l) = elsewhere
+  reads_within (readings.refused_before l) = elsewhere
 
 module _ (tokens : List ℕ) where
   -- more rows are allowed

@@ -45,7 +45,7 @@ declaration_numbers : below (λ (k : ℕ). leb (kind_number declaration k) 5) cl
 unfolding below and kind_number
 declaration_numbers = refl
 
-declaration_few : (k : ℕ) → kind_alternative declaration k ≤ 5
+pub declaration_few : (k : ℕ) → kind_alternative declaration k ≤ 5
 declaration_few = few_numbers declaration 5 declaration_numbers
 
 -- the third begins with `@`, ..

@@ -41,9 +41,10 @@ use Rattle.parser.proofs.Laws.Repeated.{IsList, list_by}
 use Rattle.parser.proofs.Laws.Views.{class-kind, class_low, names_fixed}
 use Rattle.parser.proofs.Laws.Readers.{taken_fewer, reached, begins_some, begins-none, kind_room, mark_marks, took_mark, took_name}
 use Rattle.parser.proofs.Laws.Readers.{spoken_by}
-use Rattle.parser.proofs.Laws.Openings.{declaration_definition_begins}
-use Rattle.parser.proofs.Laws.Questions.{struct_opens, plain_class}
+use Rattle.parser.proofs.Laws.Openings.{no_type, declaration_definition_begins}
+use Rattle.parser.proofs.Laws.Questions.{struct_opens, plain_next, plain_class}
 use Rattle.parser.proofs.Laws.Lists.{struct_list}
+use Rattle.parser.proofs.Laws.Loops.{begins_kind}
 use Rattle.parser.proofs.Laws.Declarations.{declaration_begun}
 use Rattle.parser.proofs.Laws.Options.{took_if}
 use Rattle.parser.proofs.Laws.Steps.{asked_here, met_here}
@@ -156,6 +157,14 @@ module _ (source tokens : List ℕ) (good : Tokens tokens) (e : Names) where
       let a₃ = took_name source tokens good e (went productions v tokens e fixed a₁ d₂) to₃ in
       went productions v tokens e fixed a₃ d₄
 
+  -- rule 4: a name that is not a type name is that of a variant; it is a token of the table
+  pub plain_kind : (s : Step) → asked_at plain_name source tokens e s ≡ true → 0 < next_kind tokens s
+  unfolding next_kind asked_at
+  plain_kind (Read j k) is =
+      let is-ident : kind_at tokens j ≡ ident = eqb-true _ _ (and_left _ _ (sym (plain_next tokens (Read j k) j k refl source e) ∙ is)) in
+      omega arith
+  plain_kind (Refused number place) is = absurd (false≢true is)
+
   -- as many variants as there are
   pub variants_list : IsList source tokens e variants variant (λ s. asked_at plain_name source tokens e s)
   variants_list =
@@ -164,7 +173,7 @@ module _ (source tokens : List ℕ) (good : Tokens tokens) (e : Names) where
       (λ s j k is read. variants_done v e j (class_low source tokens good e j) (plain_class source tokens e false s is j k read))
 
   -- the name of a variant
-  variant_named : {n below : ℕ} {s s₀ s₁ : Step} {t : List ℕ} → Within tokens 0 s → n ≡ suc below
+  pub variant_named : {n below : ℕ} {s s₀ s₁ : Step} {t : List ℕ} → Within tokens 0 s → n ≡ suc below
       → asked_at plain_name source tokens e s ≡ true → s₀ ≡ row_left s → s₁ ≡ taken_kind tokens ident s₀
       → Under variant n below (gives_row variant_row) 1 (derived payload_types ∷ []) s t s₁ t
   unfolding levels
@@ -208,11 +217,15 @@ module _ (source tokens : List ℕ) (good : Tokens tokens) (e : Names) where
       by true h = absurd (false≢true (rw h at is))
       by false h = (h, rw h at is)
 
+  -- a payload's type begins with a token of the table
+  pub payload_kind : (s : Step) → payload_begins source tokens e s ≡ true → 0 < next_kind tokens s
+  payload_kind s is = begins_kind type no_type tokens s (payload_both s is).1
+
   -- as many payload types as there are
-  payload_types_go : {n : ℕ} {s s' s'' : Step} {t t' t'' : List ℕ}
-      → After productions v (token_room tokens) e n n no_row 0 0 (derived payload_types ∷ []) (derived payload_types ∷ []) s t s' t'
-      → payload_begins source tokens e s' ≡ true → Part n 1 type s' t' s'' t''
-      → After productions v (token_room tokens) e n n no_row 0 0 (derived payload_types ∷ []) (derived payload_types ∷ []) s t s'' t''
+  pub payload_types_go : {n below least more : ℕ} {m : Makes} {ts ss : List Symbol} {s s' s'' : Step} {t t' t'' : List ℕ}
+      → After productions v (token_room tokens) e n below m least more ts (derived payload_types ∷ ss) s t s' t'
+      → payload_begins source tokens e s' ≡ true → Part below 1 type s' t' s'' t''
+      → After productions v (token_room tokens) e n below m least more ts (derived payload_types ∷ ss) s t s'' t''
   payload_types_go {s' = s'} a is d =
       let fixed = names_fixed source tokens good e in
       let both = payload_both s' is in
@@ -238,7 +251,7 @@ module _ (source tokens : List ℕ) (good : Tokens tokens) (e : Names) where
           payload_types_done v e j low (ap (kind_alternative type) (reached source tokens good e s j k read)
           ∙ begins-none type tokens s (rw h at is))
 
-  payload_types_end : {n : ℕ} {s s' : Step} {t t' : List ℕ}
+  pub payload_types_end : {n : ℕ} {s s' : Step} {t t' : List ℕ}
       → After productions v (token_room tokens) e n n no_row 0 0 (derived payload_types ∷ []) (derived payload_types ∷ []) s t s' t'
       → payload_begins source tokens e s' ≡ false → Part n 0 payload_types s t s' t'
   payload_types_end {s' = s'} a is =

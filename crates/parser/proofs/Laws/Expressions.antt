@@ -1,11 +1,11 @@
 -- The productions of expressions read step by step, up to the row that is to be closed. Assumes nothing.
-use Prim.Native.Nat.{ℕ, zero, suc, ◌-◌, ◌<◌}
+use Prim.Native.Nat.{ℕ, zero, suc, ◌-◌, ◌<◌, ◌≤◌}
 use mathlib.Core.Path.{◌≡◌, refl, ap, ◌∙◌, sym}
 use mathlib.Core.Bool.{Bool, true, false, not}
 use mathlib.Core.List.{List, [], ◌∷◌}
 use native.Mathlib.Nat.{pos_of_ne-zero}
 use native.Mathlib.Omega.{arith}
-use lib.Dec.{eqb, ltb}
+use lib.Dec.{eqb, leb, ltb}
 use lib.ListN.{replicate}
 use borrow.Author.Tests.{eqb-true, eq-eqb, ne_eqb, lt-ltb, ltb-true}
 use Rattle.std.proofs.lemmas.Bool.{not-true, not-false, eqb-false}
@@ -58,7 +58,7 @@ use Rattle.parser.proofs.Laws.After.{After, start, went, looked, spoken, held, w
 use Rattle.parser.proofs.Laws.Repeated.{IsList, list_by}
 use Rattle.parser.proofs.Laws.Views.{class-kind, class_low, class_shows, names_fixed}
 use Rattle.parser.proofs.Laws.Gives.{gives_deep, gives_inlined, barred_part, barred_condition, Takes, takes, vain}
-use Rattle.parser.proofs.Laws.Readers.{opens_with, rowed, rowed-deep, closed_by, reached, none_stuck, row-deep}
+use Rattle.parser.proofs.Laws.Readers.{opens_with, rowed, rowed-deep, few_numbers, closed_by, reached, none_stuck, row-deep}
 use Rattle.parser.proofs.Laws.Readers.{begun_by, begun_at, took_mark, took_name, looked_by, begins_there, none_there}
 use Rattle.parser.proofs.Laws.Readers.{alternative_is, passes_on}
 use Rattle.parser.proofs.Laws.Openings.{form_number, Begins, expression_name_begins, expression_binary_begins, expression_not_begins}
@@ -194,6 +194,14 @@ unfolding opens_some kinds_at
 opens_some_lem tokens j h =
     or_some (among closure_kinds (kind_at tokens j)) _ _ _ _ (and_left (eqb (kind_at tokens j) left_paren) _)
     (and_left (eqb (kind_at tokens j) ident) _) h
+
+-- there are sixteen alternatives
+few : below (λ (k : ℕ). leb (kind_number expression k) 16) classes ≡ true
+unfolding below and kind_number
+few = refl
+
+pub expression_few : (k : ℕ) → kind_alternative expression k ≤ 16
+expression_few = few_numbers expression 16 few
 
 module _ (source tokens : List ℕ) (good : Tokens tokens) (e : Names) where
   abbrev v : View
@@ -453,7 +461,7 @@ module _ (source tokens : List ℕ) (good : Tokens tokens) (e : Names) where
       took_mark source tokens good e right_paren a₃ refl to₄
 
   -- `[` type `|` expression* `]`
-  slice : {n below : ℕ} {s s₀ s₁ s₂ s₃ s₄ : Step} {t t₁ t₂ : List ℕ} → kind_alternative expression (next_kind tokens s) ≡ 12
+  pub slice : {n below : ℕ} {s s₀ s₁ s₂ s₃ s₄ : Step} {t t₁ t₂ : List ℕ} → kind_alternative expression (next_kind tokens s) ≡ 12
       → Within tokens 1 s → n ≡ suc below → s₀ ≡ opened s → Part below 1 type s₀ t s₁ t₁ → s₂ ≡ taken_kind tokens bar s₁
       → Part below 0 expressions s₂ t₁ s₃ t₂ → s₄ ≡ taken_kind tokens right_bracket s₃ → Under expression n below (gives_row slice_row) 4 [] s t s₄ t₂
   unfolding levels between and
@@ -464,7 +472,7 @@ module _ (source tokens : List ℕ) (good : Tokens tokens) (e : Names) where
       took_mark source tokens good e right_bracket (went productions v tokens e fixed a₂ d₃) refl to₄
 
   -- `@` type `{` expression* `}`
-  aggregate : {n below : ℕ} {s s₀ s₁ s₂ s₃ s₄ : Step} {t t₁ t₂ : List ℕ} → kind_alternative expression (next_kind tokens s) ≡ 13
+  pub aggregate : {n below : ℕ} {s s₀ s₁ s₂ s₃ s₄ : Step} {t t₁ t₂ : List ℕ} → kind_alternative expression (next_kind tokens s) ≡ 13
       → Within tokens 1 s → n ≡ suc below → s₀ ≡ opened s → Part below 1 type s₀ t s₁ t₁ → s₂ ≡ taken_kind tokens left_brace s₁
       → Part below 0 expressions s₂ t₁ s₃ t₂ → s₄ ≡ taken_kind tokens right_brace s₃
       → Under expression n below (gives_row aggregate_row) 4 [] s t s₄ t₂

@@ -1,14 +1,15 @@
 -- A token that may be left out, and a condition on the kind of token that comes next. Assumes nothing.
-use Prim.Native.Nat.{ℕ}
-use mathlib.Core.Path.{◌≡◌, refl, ◌∙◌, ap}
-use mathlib.Core.Bool.{Bool, true, false}
+use Prim.Native.Nat.{ℕ, ◌+◌}
+use mathlib.Core.Path.{◌≡◌, refl, ◌∙◌, ap, sym}
+use mathlib.Core.Bool.{Bool, true, false, false≢true}
 use mathlib.Core.List.{List, [], ◌∷◌}
+use native.Mathlib.Nat.{pos_of_ne-zero}
 use native.Mathlib.Omega.{arith}
 use lib.Dec.{eqb}
 use Rattle.lexer.specs.Tests.{between}
 use Rattle.lexer.specs.internal.Kinds.{last_kind}
 use Rattle.lexer.specs.Table.{token_room}
-use Rattle.lexer.specs.internal.TokenRows.{rows_of}
+use Rattle.lexer.specs.internal.TokenRows.{rows_of, kind_at}
 use Rattle.grammar.specs.Grammars.{next, Symbol, token, derived, Makes, no_row, Names, View, asked, met}
 use Rattle.grammar.specs.executable.Reading.{selected, choice}
 use Rattle.grammar.specs.Nurl.{productions}
@@ -16,12 +17,22 @@ use Rattle.grammar.specs.internal.Productions.{rule_of}
 use Rattle.grammar.specs.Languages.{language17}
 use Rattle.grammar.specs.Sources.{view_of}
 use Rattle.grammar.specs.internal.Alternatives.{kind_of_class}
-use Rattle.parser.specs.internal.Steps.{Tokens, next_kind, taken_if}
+use Rattle.parser.specs.internal.Steps.{Tokens, Within, inside, elsewhere, next_kind, taken_if, opened}
 use Rattle.parser.specs.internal.Steps.{Step}
 use Rattle.parser.proofs.Laws.After.{After, wider}
 use Rattle.parser.proofs.Laws.Steps.{if_taken, if_kept, agrees_self}
-use Rattle.parser.proofs.Laws.Views.{names_fixed}
+use Rattle.parser.proofs.Laws.Views.{kind-inside, names_fixed}
 use Rattle.parser.proofs.Laws.Readers.{marks, mark_marks, class-marks, took_kind, looked_by}
+
+-- what begins a row is a token of the table, where it passes a test that the end does not
+pub opened_where : {s s' : Step} (test : ℕ → Bool) → test 0 ≡ false → (tokens : List ℕ) → test (next_kind tokens s) ≡ true
+    → Within tokens 1 s → s' ≡ opened s → Within tokens 0 s'
+unfolding next_kind opened
+opened_where test ends tokens passes (inside {at = i} {row = r} few to) is =
+    let room = kind-inside tokens i (kind_at tokens i) refl
+    (pos_of_ne-zero (λ (z : kind_at tokens i ≡ 0). false≢true (sym ends ∙ ap test (sym z) ∙ passes))) in
+    rw is (inside {at = i + 1} {row = r + 1} (omega arith) (omega arith))
+opened_where test ends tokens passes elsewhere is = rw is elsewhere
 
 module _ (source tokens : List ℕ) (good : Tokens tokens) (e : Names) where
   abbrev v : View

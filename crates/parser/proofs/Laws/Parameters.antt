@@ -69,7 +69,7 @@ module _ (source tokens : List ℕ) (good : Tokens tokens) (e : Names) where
   field_is s is j k = field_one v e j (class_low source tokens good e j) (some_type s is j k)
 
   -- type IDENT
-  parameter-read : {n below : ℕ} {s s₀ s₁ s₂ : Step} {t t₁ : List ℕ} → begins_part type tokens s ≡ true → Within tokens 0 s
+  pub parameter-read : {n below : ℕ} {s s₀ s₁ s₂ : Step} {t t₁ : List ℕ} → begins_part type tokens s ≡ true → Within tokens 0 s
       → n ≡ suc below → s₀ ≡ row_left s → Part below 1 type s₀ t s₁ t₁
       → s₂ ≡ taken_kind tokens ident s₁
       → Under parameter n below (gives_row parameter_row) 2 [] s t s₂ t₁
@@ -83,7 +83,7 @@ module _ (source tokens : List ℕ) (good : Tokens tokens) (e : Names) where
       took_name source tokens good e (went productions v tokens e fixed a₀ d₁) to₂
 
   -- .. too deep where no level is left
-  parameter_deep : {n : ℕ} (s : Step) {t : List ℕ} → begins_part type tokens s ≡ true → n ≡ 0
+  pub parameter_deep : {n : ℕ} (s : Step) {t : List ℕ} → begins_part type tokens s ≡ true → n ≡ 0
       → Part n 1 parameter s t (refused_at 7 s) t
   unfolding rowed levels
   parameter_deep s is spent =
@@ -108,7 +108,7 @@ module _ (source tokens : List ℕ) (good : Tokens tokens) (e : Names) where
       (ap (λ (n : ℕ). eqb n ident) (reached source tokens good e s' j k read) ∙ h)))
 
   -- type IDENT?
-  field-read : {n below : ℕ} {s s₀ s₁ s₂ : Step} {t t₁ : List ℕ} → begins_part type tokens s ≡ true → Within tokens 0 s
+  pub field-read : {n below : ℕ} {s s₀ s₁ s₂ : Step} {t t₁ : List ℕ} → begins_part type tokens s ≡ true → Within tokens 0 s
       → n ≡ suc below → s₀ ≡ row_left s → Part below 1 type s₀ t s₁ t₁
       → s₂ ≡ taken_if tokens ident s₁
       → Under field n below (gives_row parameter_row) 1 [] s t s₂ t₁
@@ -122,7 +122,7 @@ module _ (source tokens : List ℕ) (good : Tokens tokens) (e : Names) where
       field_name_lem (went productions v tokens e fixed a₀ d₁) to₂
 
   -- .. too deep where no level is left
-  field_deep : {n : ℕ} (s : Step) {t : List ℕ} → begins_part type tokens s ≡ true → n ≡ 0
+  pub field_deep : {n : ℕ} (s : Step) {t : List ℕ} → begins_part type tokens s ≡ true → n ≡ 0
       → Part n 1 field s t (refused_at 7 s) t
   unfolding rowed levels
   field_deep s is spent =

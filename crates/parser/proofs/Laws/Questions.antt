@@ -17,7 +17,7 @@ use Rattle.lexer.specs.internal.TokenRows.{rows_of, kind_at, item_at}
 use Rattle.lexer.specs.Items.{item_of, items}
 use Rattle.lexer.proofs.Laws.Tests.{and-true, or-false, eqb_turn}
 use Rattle.typenames.specs.TypeNames.{is_named}
-use Rattle.grammar.specs.Grammars.{end_of_tokens, query, Names, asked}
+use Rattle.grammar.specs.Grammars.{end_of_tokens, Condition, query, Names, asked}
 use Rattle.grammar.specs.Classes.{type_name}
 use Rattle.grammar.specs.Questions.{Piece, one_of, some_of, is_text, run_of, fits, fits_one, answer_to}
 use Rattle.grammar.specs.Nurl.{questions17, plain_name}
@@ -27,10 +27,16 @@ use Rattle.grammar.specs.Sources.{view_of}
 use Rattle.grammar.proofs.Laws.Patterns.{fits_at, fits-spelled, run_at, fits_run}
 use Rattle.parser.specs.internal.Steps.{kinds_at, asked_at, AnswersTexts, AnswersKinds, word_kinds, WordsEnd}
 use Rattle.parser.specs.internal.Steps.{Step}
-use Rattle.parser.specs.internal.Steps.{Read}
+use Rattle.parser.specs.internal.Steps.{Read, Refused}
 use Rattle.parser.proofs.Laws.Views.{item_here, kind_here}
 use Rattle.parser.proofs.Laws.Kinds.{among_single, among_two, within, among_same, singles, kinds_fit, no_word_last}
 use Rattle.parser.proofs.Laws.Steps.{asked_here}
+
+-- after a refusal every answer is no
+pub refused_no : (q : Condition) (tokens : List ℕ) (step : Step) (number place : ℕ) → step ≡ Refused number place
+    → AnswersKinds q tokens step false
+unfolding asked_at
+refused_no q tokens step number place s source e = rw s
 
 or_four : (a b c d : Bool) → or (or a b) (or c d) ≡ or (or a false) (or b (or c (or d false)))
 unfolding or

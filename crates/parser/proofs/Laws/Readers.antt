@@ -88,6 +88,14 @@ pub name-marks : marks name ident ≡ true
 unfolding below and or agrees among marks
 name-marks = refl
 
+-- a number that is not the lowest is higher
+pub beyond : {m n : ℕ} → m ≤ n → (n ≡ m → ⊥) → suc m ≤ n
+beyond low not = omega arith
+
+-- the levels below one that is left
+pub level_below : {n : ℕ} → 0 < n → n ≡ suc (n - 1)
+level_below some = omega arith
+
 -- where one level more is left than there are below
 pub one_below : {n below : ℕ} → n ≡ below + 1 → n ≡ suc below
 one_below level = omega (arith, level)

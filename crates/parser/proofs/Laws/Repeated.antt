@@ -9,7 +9,7 @@ use Rattle.std.specs.Borrow.{Bor, MutBor}
 use Rattle.lexer.specs.Table.{token_room}
 use Rattle.lexer.specs.internal.TokenRows.{rows_of}
 use Rattle.lexer.specs.declared.refusals.Refusal.{Refusal}
-use Rattle.grammar.specs.Grammars.{Names, derived, no_row}
+use Rattle.grammar.specs.Grammars.{Symbol, Makes, Names, derived, no_row}
 use Rattle.grammar.specs.Nurl.{productions}
 use Rattle.grammar.specs.Languages.{language17}
 use Rattle.grammar.specs.Sources.{view_of}
@@ -46,6 +46,11 @@ goes_on r of source e n y from result t t' is part to gives =
     let there : Stands r 0 to = rw (← is) (arrived part') in
     (further of.now source e n y from to t t' part', there)
 
+-- a production is read up to where a list of x comes next
+abbrev pub Before : List ℕ → List ℕ → Names → ℕ → ℕ → Makes → ℕ → ℕ → List Symbol → ℕ → List Symbol → Step → List ℕ → Step → List ℕ → Type 0
+Before source tokens e n below m least more ts x ss =
+    After productions (view_of language17 source (rows_of tokens)) (token_room tokens) e n below m least more ts (derived x ∷ ss)
+
 -- a list of x is read up to here, from a place on
 abbrev pub Along : List ℕ → List ℕ → Names → ℕ → ℕ → Step → List ℕ → Step → List ℕ → Type 0
 Along source tokens e n x =
@@ -53,8 +58,9 @@ Along source tokens e n x =
 
 -- a nonterminal x is a list of y: where one begins, it is that y and then x again, and elsewhere nothing
 pub record IsList (source tokens : List ℕ) (e : Names) (x y : ℕ) (begun : Step → Bool) : Type 0 where
-  pub goes : {n : ℕ} {s s' s'' : Step} {t t' t'' : List ℕ} → Along source tokens e n x s t s' t' → begun s' ≡ true
-      → Reads17 source tokens e n 1 (derived y ∷ []) s' t' s'' t'' → Along source tokens e n x s t s'' t''
+  pub goes : {n below least more : ℕ} {m : Makes} {ts ss : List Symbol} {s s' s'' : Step} {t t' t'' : List ℕ}
+      → Before source tokens e n below m least more ts x ss s t s' t' → begun s' ≡ true
+      → Reads17 source tokens e below 1 (derived y ∷ []) s' t' s'' t'' → Before source tokens e n below m least more ts x ss s t s'' t''
   pub ends : {n : ℕ} {s s' : Step} {t t' : List ℕ} → Along source tokens e n x s t s' t' → begun s' ≡ false
       → Reads17 source tokens e n 0 (derived x ∷ []) s t s' t'
 
@@ -65,10 +71,10 @@ pub list_by : (source tokens : List ℕ) (good : Tokens tokens) (e : Names) {x y
     → ((s : Step) (j k : ℕ) → begun s ≡ false → s ≡ Read j k
     → choice productions (view_of language17 source (rows_of tokens)) e x j ≡ selected (rule_of x no_row []))
     → IsList source tokens e x y begun
-list_by source tokens good e more none =
+list_by source tokens good e part none =
     let fixed = names_fixed source tokens good e in
     record {
-      goes = λ {n} {s} {s'} a is. list_more productions _ _ _ fixed a (λ j k read. more s' j k is read);
+      goes = λ {n} {below} {least} {more} {m} {ts} {ss} {s} {s'} a is. list_more productions _ _ _ fixed a (λ j k read. part s' j k is read);
       ends = λ {n} {s} {s'} a is. done productions _ _ _ fixed (list_done productions _ _ _ fixed a (λ j k read. none s' j k is read));
     }
 

@@ -1,10 +1,10 @@
 -- The productions of blocks and statements, read step by step. Assumes nothing.
-use Prim.Native.Nat.{ℕ, zero, suc, ◌<◌}
+use Prim.Native.Nat.{ℕ, zero, suc, ◌+◌, ◌<◌, ◌≤◌}
 use mathlib.Core.Path.{◌≡◌, refl, ap, ◌∙◌}
 use mathlib.Core.Bool.{Bool, true, false}
 use mathlib.Core.List.{List, [], ◌∷◌}
 use native.Mathlib.Omega.{arith}
-use lib.Dec.{eqb, ltb}
+use lib.Dec.{eqb, leb, ltb}
 use borrow.Author.Tests.{eqb-true}
 use Rattle.std.specs.Prelude.{Some}
 use Rattle.lexer.specs.Tests.{and, between}
@@ -36,9 +36,7 @@ use Rattle.grammar.proofs.Laws.Alternatives17.{mutable_none, binding_named, bind
 use Rattle.grammar.proofs.Laws.Alternatives17.{assignment_set_element, assignment_none, tilde_statement_foreach, tilde_statement_other}
 use Rattle.grammar.proofs.Laws.Alternatives17.{tilde_statement_none, loop_or_complement_some, loop_or_complement_none}
 use Rattle.grammar.proofs.Laws.Alternatives17 as alternatives
-use Rattle.parser.specs.internal.Readers.{names_of}
 use Rattle.parser.specs.internal.Readings.{Reads}
-use Rattle.parser.specs.declared.reading.Reading.{Reading}
 use Rattle.parser.specs.internal.Steps.{Tokens, Within, next_kind, begins_part, kinds_at, asked_at, refused_at, taken_kind, taken_if, opened}
 use Rattle.parser.specs.internal.Steps.{Step}
 use Rattle.parser.specs.internal.Steps.{Read}
@@ -46,7 +44,7 @@ use Rattle.parser.proofs.Laws.After.{After, start, went, looked, spoken, held, w
 use Rattle.parser.proofs.Laws.Repeated.{IsList, list_by}
 use Rattle.parser.proofs.Laws.Views.{class_low, class-kind, names_fixed}
 use Rattle.parser.proofs.Laws.Gives.{barred_token, barred_part, barred_condition, Takes, takes, vain}
-use Rattle.parser.proofs.Laws.Readers.{reached, begun_mark, begun_at, rowed, none_stuck, row-deep, class-marks}
+use Rattle.parser.proofs.Laws.Readers.{reached, begun_mark, begun_at, rowed, few_numbers, none_stuck, row-deep, class-marks}
 use Rattle.parser.proofs.Laws.Readers.{mark_marks, name-marks, took_mark, took_name, looked_by, spoken_by, begins_there}
 use Rattle.parser.proofs.Laws.Readers.{none_there, alternative_is, some_rowed}
 use Rattle.parser.proofs.Laws.Questions.{two_names_lem, plain_class}
@@ -68,6 +66,14 @@ statement_rows :
 unfolding below implies and rowed levels nth productions kind_number
 statement_rows = refl
 
+-- there are five
+statement_numbers : below (λ (k : ℕ). leb (kind_number statement k) 5) classes ≡ true
+unfolding below and kind_number
+statement_numbers = refl
+
+pub statement_few : (k : ℕ) → kind_alternative statement k ≤ 5
+statement_few = few_numbers statement 5 statement_numbers
+
 -- the form that is no other is the one that begins with a `~`
 pub tilde_left : (form : StatementForm) → (form ≡ Expression → ⊥) → (form ≡ Let → ⊥) → (form ≡ Assignment → ⊥) → (form ≡ Defer → ⊥) → form ≡ Tilde
 tilde_left Expression e l a d = absurd (e refl)
@@ -84,19 +90,7 @@ more_than_expression Assignment _ = omega arith
 more_than_expression Defer _ = omega arith
 more_than_expression Tilde _ = omega arith
 
-module _ (reading : Reading) where
-  abbrev source : List ℕ
-  source = reading.source.now
-
-  abbrev tokens : List ℕ
-  tokens = reading.tokens.now
-
-  abbrev good : Tokens tokens
-  good = reading.tokens_good
-
-  abbrev e : Names
-  e = names_of reading
-
+module _ (source tokens : List ℕ) (good : Tokens tokens) (e : Names) where
   abbrev v : View
   v = view_of language17 source (rows_of tokens)
 
@@ -227,22 +221,50 @@ module _ (reading : Reading) where
       by (suc n) h = takes (binding_typed v e j low (plain_class source tokens e false s not j k at) h)
 
   -- .. after its type
+  typed_begun : {n below : ℕ} {s s₀ s₁ s₂ : Step} {t t₂ : List ℕ} → kind_alternative statement (next_kind tokens s) ≡ 2
+      → Within tokens 1 s → n ≡ suc below → s₀ ≡ opened s → s₁ ≡ taken_if tokens tilde s₀
+      → asked_at plain_name source tokens e s₁ ≡ false → Part below 1 type s₁ t s₂ t₂
+      → Under statement n below (gives_row let_row) 2 (token name ∷ derived expression ∷ []) s t s₂ t₂
+  typed_begun {s₁ = s₁} begins within level to₀ to₁ not d₂ =
+      let fixed = names_fixed source tokens good e in
+      let a = looked productions v tokens e fixed (let_begun begins within level to₀ to₁) (typed_takes s₁ not) refl in
+      let b = held productions v tokens e fixed a (met_here source tokens e plain_name s₁ false not) in
+      went productions v tokens e fixed b d₂
+
   pub let_typed : {n below : ℕ} {s s₀ s₁ s₂ : Step} {t t₂ : List ℕ} → kind_alternative statement (next_kind tokens s) ≡ 2
       → Within tokens 1 s → n ≡ suc below → s₀ ≡ opened s → s₁ ≡ taken_if tokens tilde s₀
       → asked_at plain_name source tokens e s₁ ≡ false → Part below 1 type s₁ t s₂ t₂
       → Under statement n below (gives_row let_row) 1 (token name ∷ derived expression ∷ []) s t s₂ t₂
-  let_typed {s₁ = s₁} begins within level to₀ to₁ not d₂ =
-      let fixed = names_fixed source tokens good e in
-      let a = looked productions v tokens e fixed (let_begun begins within level to₀ to₁) (typed_takes s₁ not) refl in
-      let b = held productions v tokens e fixed a (met_here source tokens e plain_name s₁ false not) in
-      wider productions v tokens e fixed (went productions v tokens e fixed b d₂) (omega arith) (omega arith)
+  let_typed begins within level to₀ to₁ not d₂ =
+      wider productions v tokens e (names_fixed source tokens good e) (typed_begun begins within level to₀ to₁ not d₂)
+      (omega arith) (omega arith)
 
   -- .. and then the name and the value are read
-  pub let_valued : {n below : ℕ} {s s₂ s₃ s₄ : Step} {t t₂ t₄ : List ℕ}
-      → Under statement n below (gives_row let_row) 1 (token name ∷ derived expression ∷ []) s t s₂ t₂
+  pub let_valued : {n below least : ℕ} {s s₂ s₃ s₄ : Step} {t t₂ t₄ : List ℕ}
+      → Under statement n below (gives_row let_row) least (token name ∷ derived expression ∷ []) s t s₂ t₂
       → s₃ ≡ taken_kind tokens ident s₂ → Part below 1 expression s₃ t₂ s₄ t₄
-      → Under statement n below (gives_row let_row) 3 [] s t s₄ t₄
-  let_valued a to₃ d₄ = went productions v tokens e (names_fixed source tokens good e) (took_name source tokens good e a to₃) d₄
+      → Under statement n below (gives_row let_row) (least + 2) [] s t s₄ t₄
+  let_valued a to₃ d₄ =
+      let fixed = names_fixed source tokens good e in
+      let b = went productions v tokens e fixed (took_name source tokens good e a to₃) d₄ in
+      wider productions v tokens e fixed b (omega arith) (omega arith)
+
+  -- `:` `~`? IDENT expression
+  pub let_plain_whole : {n below : ℕ} {s s₀ s₁ s₂ s₃ : Step} {t t₃ : List ℕ} → kind_alternative statement (next_kind tokens s) ≡ 2
+      → Within tokens 1 s → n ≡ suc below → s₀ ≡ opened s → s₁ ≡ taken_if tokens tilde s₀
+      → asked_at plain_name source tokens e s₁ ≡ true → s₂ ≡ taken_kind tokens ident s₁
+      → Part below 1 expression s₂ t s₃ t₃
+      → Under statement n below (gives_row let_row) 3 [] s t s₃ t₃
+  let_plain_whole begins within level to₀ to₁ is = let_valued (let_plain begins within level to₀ to₁ is)
+
+  -- `:` `~`? type IDENT expression
+  pub let_typed_whole : {n below : ℕ} {s s₀ s₁ s₂ s₃ s₄ : Step} {t t₂ t₄ : List ℕ} → kind_alternative statement (next_kind tokens s) ≡ 2
+      → Within tokens 1 s → n ≡ suc below → s₀ ≡ opened s → s₁ ≡ taken_if tokens tilde s₀
+      → asked_at plain_name source tokens e s₁ ≡ false
+      → Part below 1 type s₁ t s₂ t₂ → s₃ ≡ taken_kind tokens ident s₂
+      → Part below 1 expression s₃ t₂ s₄ t₄
+      → Under statement n below (gives_row let_row) 4 [] s t s₄ t₄
+  let_typed_whole begins within level to₀ to₁ not d₂ = let_valued (typed_begun begins within level to₀ to₁ not d₂)
 
   -- `=` `.` expression expression expression
   pub set_element : {n below : ℕ} {s s₀ s₁ s₂ s₃ s₄ : Step} {t t₂ t₃ t₄ : List ℕ} → kind_alternative statement (next_kind tokens s) ≡ 3

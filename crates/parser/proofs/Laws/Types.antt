@@ -1,11 +1,11 @@
 -- The productions of types read step by step. Assumes nothing.
-use Prim.Native.Nat.{ℕ, suc, ◌<◌}
+use Prim.Native.Nat.{ℕ, suc, ◌<◌, ◌≤◌}
 use mathlib.Core.Path.{◌≡◌, refl, ap, ◌∙◌}
 use mathlib.Core.Bool.{Bool, true, false}
 use mathlib.Core.List.{List, [], ◌∷◌}
 use native.Mathlib.Nat.{pos_of_ne-zero}
 use native.Mathlib.Omega.{arith}
-use lib.Dec.{eqb, ltb}
+use lib.Dec.{eqb, leb, ltb}
 use lib.ListN.{replicate}
 use borrow.Author.Tests.{eqb-true}
 use Rattle.lexer.specs.Tests.{and, between}
@@ -38,7 +38,7 @@ use Rattle.parser.proofs.Laws.After.{After, went, spoken}
 use Rattle.parser.proofs.Laws.Repeated.{IsList, list_by}
 use Rattle.parser.proofs.Laws.Views.{class_low, names_fixed}
 use Rattle.parser.proofs.Laws.Gives.{barred_token, Takes, takes, vain}
-use Rattle.parser.proofs.Laws.Readers.{reached, begun_at, closed_by, rowed, some_rowed, none_stuck, row-deep}
+use Rattle.parser.proofs.Laws.Readers.{reached, begun_at, closed_by, rowed, some_rowed, few_numbers, none_stuck, row-deep}
 use Rattle.parser.proofs.Laws.Readers.{class-marks, name-marks, took_mark, took_name, took_word, spoken_by, begins_there}
 use Rattle.parser.proofs.Laws.Readers.{none_there, alternative_is}
 use Rattle.parser.proofs.Laws.Openings.{Begins, type_base_begins, type_pointer_begins, type_optional_begins, type_slice_begins}
@@ -48,6 +48,14 @@ use Rattle.parser.proofs.Laws.Openings.{type_result_begins, type_parenthesized_b
 type_rows : below (λ (k : ℕ). implies (ltb 0 (kind_number type k)) (rowed (nth type (kind_number type k) productions))) classes ≡ true
 unfolding below implies and rowed levels nth productions kind_number
 type_rows = refl
+
+-- there are seven
+type_numbers : below (λ (k : ℕ). leb (kind_number type k) 7) classes ≡ true
+unfolding below and kind_number
+type_numbers = refl
+
+pub type_few : (k : ℕ) → kind_alternative type k ≤ 7
+type_few = few_numbers type 7 type_numbers
 
 -- what stands for an operator is an alternative
 pub operator_some : {a count kind : ℕ} → TypeOperator a count kind → 0 < a
@@ -82,7 +90,7 @@ module _ (source tokens : List ℕ) (good : Tokens tokens) (e : Names) where
   type_begun number is opens = begun_at source tokens good e type-choice is opens
 
   -- a mark and so many types
-  type_operator : {n below a count kind : ℕ} {s s₀ : Step} {t : List ℕ} → TypeOperator a count kind
+  pub type_operator : {n below a count kind : ℕ} {s s₀ : Step} {t : List ℕ} → TypeOperator a count kind
       → kind_alternative type (next_kind tokens s) ≡ a → Within tokens 1 s → n ≡ suc below → s₀ ≡ opened s
       → Under type n below (gives_row kind) 1 (replicate count (derived type)) s t s₀ t
   unfolding levels

@@ -9,7 +9,7 @@ use borrow.Author.Tests.{eqb-true, eq-eqb}
 use lib.Dec.{eqb}
 use lib.ListN.{length}
 use Rattle.std.specs.Bool.{Decides, one_answer}
-use Rattle.lexer.specs.Tests.{and, pick}
+use Rattle.lexer.specs.Tests.{and, or, pick}
 use Rattle.lexer.specs.Spellings.{same}
 use Rattle.lexer.specs.Words.{two_colons, as_name, same_name}
 use Rattle.lexer.proofs.Laws.Tests.{and_left, and_right}
@@ -69,6 +69,13 @@ as_name_step b (d ∷ s) = read_pair b d s (two_colons (b ∷ d ∷ []))
 pub read_step : (name : List ℕ) (b : ℕ) (s : List ℕ) (inside after t : Bool) → name ≡ b ∷ s → inside ≡ false → after ≡ t
     → two_colons name ≡ t → read_from inside name ≡ pick t (code "_") b ∷ read_from after s
 read_step name b s inside after t first out on e = rw (first, out, on, as_name_step b s, ← first, e)
+
+-- .. and from any place
+pub read_onward : (inside : Bool) (b : ℕ) (s : List ℕ)
+    → read_from inside (b ∷ s) ≡ pick (or inside (two_colons (b ∷ s))) (code "_") b ∷ read_from (pick inside false (two_colons (b ∷ s))) s
+unfolding or
+read_onward true b s = refl
+read_onward false b s = as_name_step b s
 
 -- names are the same exactly where what they are read as is
 same_refl : (v : List ℕ) → same v v ≡ true

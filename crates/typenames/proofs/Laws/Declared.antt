@@ -8,18 +8,29 @@ use native.Mathlib.Omega.{arith}
 use native.Mathlib.Numerals.{add-one}
 use native.Mathlib.Nat.{add_assoc}
 use lib.Dec.{eqb, eqb-suc-zero}
-use borrow.Author.Tests.{eqb-true, ne_eqb, lt-ltb, le-ltb}
+use borrow.Author.Tests.{eqb-true, eq-eqb, ne_eqb, lt-ltb, le-ltb}
 use lib.ListN.{length, drop, length-drop}
 use lib.Seq.{drop-cons}
-use Rattle.lexer.specs.Tests.{and, pick, among}
-use Rattle.lexer.specs.internal.Kinds.{ident, colon, bar, left_brace, right_brace}
+use Rattle.lexer.specs.Tests.{and, or, pick, among}
+use Rattle.lexer.specs.internal.Kinds.{ident, colon, bar, left_brace, right_brace, left_bracket}
 use Rattle.lexer.specs.Tokens.{Token}
 use Rattle.lexer.specs.Table.{token_room}
 use Rattle.lexer.specs.internal.TokenRows.{rows_of, no_token, row_at, kind_at, item_at}
 use Rattle.lexer.specs.Items.{Item, item_of, items}
+use Rattle.lexer.proofs.Laws.Tests.{or-false, eqb_turn}
 use Rattle.lexer.proofs.Laws.Rows.{rows_of-length}
-use Rattle.typenames.specs.TypeNames.{enum_name, struct_name, deeper, names_at, declared}
+use Rattle.typenames.specs.TypeNames.{enum_name, struct_name, deeper, names_at, declared, opening17}
 use Rattle.typenames.specs.internal.Declarations.{offset_after, name_offset, items_from, declared_from, names_at_row, NextName}
+
+-- the kinds that can follow a struct's name
+pub opens_brace : (k : ℕ) → k ≡ left_brace → among opening17 k ≡ true
+unfolding among or
+opens_brace k h = rw (eq-eqb left_brace k (sym h))
+
+pub opens_other : (k : ℕ) → (k ≡ left_brace → ⊥) → among opening17 k ≡ eqb k left_bracket
+unfolding among or
+opens_other k h =
+    rw (ne_eqb left_brace k (λ (e : left_brace ≡ k). h (sym e))) (or-false (eqb left_bracket k) ∙ eqb_turn left_bracket k)
 
 -- fewer than three tokens declare nothing
 items-length : (source : List ℕ) (ts : List Token) → length (items source ts) ≡ length ts
@@ -189,6 +200,9 @@ module _ (opening source table : List ℕ) (row : ℕ) where
 pub record Reached (opening table : List ℕ) (from row depth : ℕ) : Type 0 where
   pub rest : (source : List ℕ) → declared_from opening source table from zero ≡ declared_from opening source table row depth
 
+pub reached_start : (opening table : List ℕ) (from : ℕ) → Reached opening table from from zero
+reached_start opening table from = record { rest = λ source. refl }
+
 module _ {opening table : List ℕ} {from row depth : ℕ} (reached : Reached opening table from row depth) where
   pub next_none : token_room table ≤ row + 2 → NextName opening table from (token_room table)
   next_none h =
@@ -217,3 +231,9 @@ module _ {opening table : List ℕ} {from row depth : ℕ} (reached : Reached op
               ∙ from_found opening source table row depth h some
               ∙ sym (row_here opening source table found below);
         }
+
+-- a scan begins at the first row
+pub from_first : (opening source table : List ℕ)
+    → declared opening zero (items source (rows_of table)) ≡ declared_from opening source table 0 zero
+unfolding declared_from
+from_first opening source table = refl

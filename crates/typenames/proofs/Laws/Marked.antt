@@ -51,7 +51,7 @@ unfolding marked_all
 all_still p [] room v pass = pass
 all_still p (n ∷ ns) room v pass = all_still (marked p n) ns (marked_room p n room) v (still_passes p n room v pass)
 
-all_append : (p : List ℕ) (ns ms : List (List ℕ)) → marked_all p (ns ++ ms) ≡ marked_all (marked_all p ns) ms
+pub all_append : (p : List ℕ) (ns ms : List (List ℕ)) → marked_all p (ns ++ ms) ≡ marked_all (marked_all p ns) ms
 unfolding marked_all
 all_append p [] ms = refl
 all_append p (n ∷ ns) ms = all_append (marked p n) ns ms

@@ -1,15 +1,16 @@
 -- Prepared lists: a word that does not pass is none of the names that are let through, one that passes is asked of all; and where the
 -- slots of all names are set, all are let through. Assumes nothing.
 use Prim.Native.Nat.{ℕ, zero, ◌+◌, ◌-◌, ◌<◌, ◌≤◌}
-use mathlib.Core.Path.{◌≡◌, refl, ◌∙◌, ap}
+use mathlib.Core.Path.{◌≡◌, refl, sym, ◌∙◌, ap}
 use mathlib.Core.Bool.{Bool, true, false}
 use mathlib.Core.List.{List, [], ◌∷◌, ◌++◌, append-nil}
 use mathlib.Core.Logic.{⊎_elim}
 use native.Mathlib.Omega.{arith}
+use native.Mathlib.Numerals.{add-one}
 use denote.Ref.{Bor}
 use borrow.Rule.Slice.PartMut.{put_mid}
-use lib.ListN.{length, take, drop, length-drop}
-use lib.Seq.{drop-length, drop_at, length-take-le}
+use lib.ListN.{length, take, drop, get_or, set, length-drop}
+use lib.Seq.{drop-length, drop_at, length-take-le, drop-set-add, take-suc, take-suc-set, take_all}
 use Rattle.std.proofs.lemmas.List.{take_rest}
 use Rattle.std.proofs.Common.{rules}
 use Rattle.std.proofs.lemmas.Slice.{overwrites}
@@ -84,6 +85,19 @@ unfolding prepared_names type_names
 all_prepared opening p list ts room after =
     let names = entries list ++ declared opening zero ts in
     rw (all_list p names, after) (all_passing p names room)
+
+-- a list that is copied after the slots, so far
+module _ (p list : List ℕ) (at : ℕ) (room : length p ≡ slots + length list) (copied : take at (drop slots p) ≡ take at list) where
+  pub copied_more : at < length list → take (at + 1) (drop slots (set p (slots + at) (get_or list at 0))) ≡ take (at + 1) list
+  copied_more below =
+      let l = length-drop slots p in
+      rw (add-one at, drop-set-add slots p at (get_or list at 0), take-suc-set (drop slots p) at (get_or list at 0) (omega arith), copied)
+      (sym (take-suc list at 0 below))
+
+  pub copied_all : length list ≤ at → drop slots p ≡ list
+  copied_all end =
+      let l = length-drop slots p in
+      sym (take_all at (drop slots p) (omega arith)) ∙ copied ∙ take_all at list end
 
 -- a list that is copied to the end of another
 module _ (a : ℕ) (p copy list : List ℕ) (room : length p ≡ a + length list) (is : copy ≡ list) where

@@ -127,40 +127,40 @@ assignment-open-opened-requires-clause-some t c = some_kind statement no_stateme
 pub assignment-returns-in_err-marked : goal.assignment-returns-in_err-marked
 assignment-returns-in_err-marked t c =
     leaves _ _ c.from_residual.ensures.1
-    (set_element c.args.self.now c.requires.form c.requires.stands (add-one _)
+    (set_element c.args.self.now.source.now _ c.args.self.now.tokens_good _ c.requires.form c.requires.stands (add-one _)
     c.open-opened.ensures.answer (sym c.next_is.ensures ∙ c.if-next_is.true) c.in_err-marked.ensures.answer passed passed passed)
 
 pub assignment-returns-in_err-whole : goal.assignment-returns-in_err-whole
 assignment-returns-in_err-whole t c =
     leaves _ _ c.from_residual-in_err-whole.ensures.1
-    (set_element c.args.self.now c.requires.form c.requires.stands (add-one _)
+    (set_element c.args.self.now.source.now _ c.args.self.now.tokens_good _ c.requires.form c.requires.stands (add-one _)
     c.open-opened.ensures.answer (sym c.next_is.ensures ∙ c.if-next_is.true) c.in_ok-marked.ensures.answer c.in_err-whole.ensures passed passed)
 
 pub assignment-returns-in_err-index : goal.assignment-returns-in_err-index
 assignment-returns-in_err-index t c =
     leaves _ _ c.from_residual-in_err-index.ensures.1
-    (set_element c.args.self.now c.requires.form c.requires.stands (add-one _)
+    (set_element c.args.self.now.source.now _ c.args.self.now.tokens_good _ c.requires.form c.requires.stands (add-one _)
     c.open-opened.ensures.answer (sym c.next_is.ensures ∙ c.if-next_is.true) c.in_ok-marked.ensures.answer c.in_ok-whole.ensures
     c.in_err-index.ensures passed)
 
 pub assignment-returns-in_err-valued : goal.assignment-returns-in_err-valued
 assignment-returns-in_err-valued t c =
     leaves _ _ c.from_residual-in_err-valued.ensures.1
-    (set_element c.args.self.now c.requires.form c.requires.stands (add-one _)
+    (set_element c.args.self.now.source.now _ c.args.self.now.tokens_good _ c.requires.form c.requires.stands (add-one _)
     c.open-opened.ensures.answer (sym c.next_is.ensures ∙ c.if-next_is.true) c.in_ok-marked.ensures.answer c.in_ok-whole.ensures
     c.in_ok-index.ensures c.in_err-valued.ensures)
 
 pub assignment-close_row-requires : goal.assignment-close_row-requires
 assignment-close_row-requires t c =
     closable _ _ c.args.self.now.tokens_good _ {t = c.args.rows.now} c.requires.stands
-    (set_element c.args.self.now c.requires.form c.requires.stands (add-one _)
+    (set_element c.args.self.now.source.now _ c.args.self.now.tokens_good _ c.requires.form c.requires.stands (add-one _)
     c.open-opened.ensures.answer (sym c.next_is.ensures ∙ c.if-next_is.true) c.in_ok-marked.ensures.answer c.in_ok-whole.ensures
     c.in_ok-index.ensures c.in_ok-valued.ensures)
 
 pub assignment-returns-then-next_is : goal.assignment-returns-then-next_is
 assignment-returns-then-next_is t c =
     row_read _ _ c.args.self.now.tokens_good _
-    (set_element c.args.self.now c.requires.form c.requires.stands (add-one _)
+    (set_element c.args.self.now.source.now _ c.args.self.now.tokens_good _ c.requires.form c.requires.stands (add-one _)
     c.open-opened.ensures.answer (sym c.next_is.ensures ∙ c.if-next_is.true) c.in_ok-marked.ensures.answer c.in_ok-whole.ensures
     c.in_ok-index.ensures c.in_ok-valued.ensures)
     (omega arith) c.close_row.ensures.answer c.close_row.ensures.table
@@ -168,25 +168,25 @@ assignment-returns-then-next_is t c =
 pub assignment-returns-in_err-named : goal.assignment-returns-in_err-named
 assignment-returns-in_err-named t c =
     leaves _ _ c.from_residual-in_err-named.ensures.1
-    (set_name c.args.self.now c.requires.form c.requires.stands (add-one _)
+    (set_name c.args.self.now.source.now _ c.args.self.now.tokens_good _ c.requires.form c.requires.stands (add-one _)
     c.open-opened.ensures.answer (sym c.next_is.ensures ∙ c.if-next_is.false) c.in_err-named.ensures.answer passed)
 
 pub assignment-returns-in_err-valued-2 : goal.assignment-returns-in_err-valued-2
 assignment-returns-in_err-valued-2 t c =
     leaves _ _ c.from_residual-in_err-valued-2.ensures.1
-    (set_name c.args.self.now c.requires.form c.requires.stands (add-one _)
+    (set_name c.args.self.now.source.now _ c.args.self.now.tokens_good _ c.requires.form c.requires.stands (add-one _)
     c.open-opened.ensures.answer (sym c.next_is.ensures ∙ c.if-next_is.false) c.in_ok-named.ensures.answer c.in_err-valued-2.ensures)
 
 pub assignment-close_row-requires-2 : goal.assignment-close_row-requires-2
 assignment-close_row-requires-2 t c =
     closable _ _ c.args.self.now.tokens_good _ {t = c.args.rows.now} c.requires.stands
-    (set_name c.args.self.now c.requires.form c.requires.stands (add-one _)
+    (set_name c.args.self.now.source.now _ c.args.self.now.tokens_good _ c.requires.form c.requires.stands (add-one _)
     c.open-opened.ensures.answer (sym c.next_is.ensures ∙ c.if-next_is.false) c.in_ok-named.ensures.answer c.in_ok-valued-2.ensures)
 
 pub assignment-returns : goal.assignment-returns
 assignment-returns t c =
     row_read _ _ c.args.self.now.tokens_good _
-    (set_name c.args.self.now c.requires.form c.requires.stands (add-one _)
+    (set_name c.args.self.now.source.now _ c.args.self.now.tokens_good _ c.requires.form c.requires.stands (add-one _)
     c.open-opened.ensures.answer (sym c.next_is.ensures ∙ c.if-next_is.false) c.in_ok-named.ensures.answer c.in_ok-valued-2.ensures)
     (omega arith) c.close_row-2.ensures.answer c.close_row-2.ensures.table
 
@@ -212,36 +212,36 @@ assignment-expression-requires-2 t c = (omega (arith, c.decreases), wide c.in_ok
 
 pub block-returns-then-not-next_is-clause-reads : goal.block-returns-then-not-next_is-clause-reads
 block-returns-then-not-next_is-clause-reads t c =
-    rw c.no_program.ensures (block_stuck c.args.self.now _ (sym c.next_is.ensures ∙ c.if-not-next_is.true))
+    rw c.no_program.ensures (block_stuck c.args.self.now.source.now _ c.args.self.now.tokens_good _ _ (sym c.next_is.ensures ∙ c.if-not-next_is.true))
 
 pub block-returns-in_err-below-clause-reads : goal.block-returns-in_err-below-clause-reads
 block-returns-in_err-below-clause-reads t c =
     no_level _ _ c.from_residual.ensures.1 c.in_err-below.ensures.stops
-    (block_deep c.args.self.now _ (sym c.next_is.ensures ∙ c.if-not-next_is.false))
+    (block_deep c.args.self.now.source.now _ c.args.self.now.tokens_good _ _ (sym c.next_is.ensures ∙ c.if-not-next_is.false))
 
 pub block-returns-in_err-listed-clause-reads : goal.block-returns-in_err-listed-clause-reads
 unfolding taken_by
 block-returns-in_err-listed-clause-reads t c =
     leaves _ _ c.from_residual-in_err-listed.ensures.1
-    (block_whole c.args.self.now (sym c.next_is.ensures ∙ c.if-not-next_is.false) c.requires
+    (block_whole c.args.self.now.source.now _ c.args.self.now.tokens_good _ (sym c.next_is.ensures ∙ c.if-not-next_is.false) c.requires
     (c.in_ok-below.ensures.goes ∙ add-one _) c.open-opened.ensures.answer c.in_err-listed.ensures refl)
 
 pub block-returns-in_err-ended-clause-reads : goal.block-returns-in_err-ended-clause-reads
 block-returns-in_err-ended-clause-reads t c =
     leaves _ _ c.from_residual-in_err-ended.ensures.1
-    (block_whole c.args.self.now (sym c.next_is.ensures ∙ c.if-not-next_is.false) c.requires
+    (block_whole c.args.self.now.source.now _ c.args.self.now.tokens_good _ (sym c.next_is.ensures ∙ c.if-not-next_is.false) c.requires
     (c.in_ok-below.ensures.goes ∙ add-one _) c.open-opened.ensures.answer c.in_ok-listed.ensures c.in_err-ended.ensures.answer)
 
 pub block-close_row-requires : goal.block-close_row-requires
 block-close_row-requires t c =
     closable _ _ c.args.self.now.tokens_good _ {t = c.args.rows.now} c.requires
-    (block_whole c.args.self.now (sym c.next_is.ensures ∙ c.if-not-next_is.false) c.requires
+    (block_whole c.args.self.now.source.now _ c.args.self.now.tokens_good _ (sym c.next_is.ensures ∙ c.if-not-next_is.false) c.requires
     (c.in_ok-below.ensures.goes ∙ add-one _) c.open-opened.ensures.answer c.in_ok-listed.ensures c.in_ok-ended.ensures.answer)
 
 pub block-returns-clause-reads : goal.block-returns-clause-reads
 block-returns-clause-reads t c =
     row_read _ _ c.args.self.now.tokens_good _
-    (block_whole c.args.self.now (sym c.next_is.ensures ∙ c.if-not-next_is.false) c.requires
+    (block_whole c.args.self.now.source.now _ c.args.self.now.tokens_good _ (sym c.next_is.ensures ∙ c.if-not-next_is.false) c.requires
     (c.in_ok-below.ensures.goes ∙ add-one _) c.open-opened.ensures.answer c.in_ok-listed.ensures c.in_ok-ended.ensures.answer)
     (omega arith) c.close_row.ensures.answer c.close_row.ensures.table
 
@@ -380,19 +380,19 @@ defer-open-opened-requires-clause-some t c = some_kind statement no_statement _ 
 pub defer-returns-in_err-ended : goal.defer-returns-in_err-ended
 defer-returns-in_err-ended t c =
     leaves _ _ c.from_residual.ensures.1
-    (defer_block c.args.self.now c.requires.form c.requires.stands (add-one _)
+    (defer_block c.args.self.now.source.now _ c.args.self.now.tokens_good _ c.requires.form c.requires.stands (add-one _)
     c.open-opened.ensures.answer c.in_err-ended.ensures.reads)
 
 pub defer-close_row-requires : goal.defer-close_row-requires
 defer-close_row-requires t c =
     closable _ _ c.args.self.now.tokens_good _ {t = c.args.rows.now} c.requires.stands
-    (defer_block c.args.self.now c.requires.form c.requires.stands (add-one _)
+    (defer_block c.args.self.now.source.now _ c.args.self.now.tokens_good _ c.requires.form c.requires.stands (add-one _)
     c.open-opened.ensures.answer c.in_ok-ended.ensures.reads)
 
 pub defer-returns : goal.defer-returns
 defer-returns t c =
     row_read _ _ c.args.self.now.tokens_good _
-    (defer_block c.args.self.now c.requires.form c.requires.stands (add-one _)
+    (defer_block c.args.self.now.source.now _ c.args.self.now.tokens_good _ c.requires.form c.requires.stands (add-one _)
     c.open-opened.ensures.answer c.in_ok-ended.ensures.reads)
     (omega arith) c.close_row.ensures.answer c.close_row.ensures.table
 
@@ -644,7 +644,7 @@ let_statement-open-opened-requires-clause-some t c = some_kind statement no_stat
 pub let_statement-returns-in_err-typed : goal.let_statement-returns-in_err-typed
 let_statement-returns-in_err-typed t c =
     leaves _ _ c.from_residual.ensures.1
-    (let_typed c.args.self.now c.requires.form c.requires.stands (add-one _) c.open-opened.ensures.answer
+    (let_typed c.args.self.now.source.now _ c.args.self.now.tokens_good _ c.requires.form c.requires.stands (add-one _) c.open-opened.ensures.answer
     c.take_if-mutable.ensures.answer (sym c.plain_name.ensures ∙ c.if-plain_name.false) (c.in_err-typed.ensures.reads _ _))
 
 -- where the name is next
@@ -654,10 +654,10 @@ let_begun : (t : ℕ) (c : let_statement-Joined-plain_name t)
 let_begun t c =
     elim c.if-plain_name.branch [
       | let_statement-then-plain_name w ↦ rw (w.typed-is, w.rows-is)
-          (let_plain c.args.self.now c.requires.form c.requires.stands (add-one _) c.open-opened.ensures.answer
+          (let_plain c.args.self.now.source.now _ c.args.self.now.tokens_good _ c.requires.form c.requires.stands (add-one _) c.open-opened.ensures.answer
           c.take_if-mutable.ensures.answer (sym c.plain_name.ensures ∙ w.if-plain_name.true))
       | let_statement-else-plain_name+in_ok-typed w ↦ rw (w.typed-is, w.rows-is)
-          (let_typed c.args.self.now c.requires.form c.requires.stands (add-one _) c.open-opened.ensures.answer
+          (let_typed c.args.self.now.source.now _ c.args.self.now.tokens_good _ c.requires.form c.requires.stands (add-one _) c.open-opened.ensures.answer
           c.take_if-mutable.ensures.answer (sym c.plain_name.ensures ∙ w.if-plain_name.false) (w.in_ok-typed.ensures.reads _ _))
     ]
 
@@ -669,25 +669,25 @@ let_statement-take-requires t c =
 pub let_statement-returns-in_err-named : goal.let_statement-returns-in_err-named
 let_statement-returns-in_err-named t c =
     leaves _ _ c.from_residual-in_err-named.ensures.1
-    (let_valued c.args.self.now (let_begun t (goal.at.let_statement-returns-in_err-named t c).Joined-plain_name)
+    (let_valued c.args.self.now.source.now _ c.args.self.now.tokens_good _ (let_begun t (goal.at.let_statement-returns-in_err-named t c).Joined-plain_name)
     c.in_err-named.ensures.answer passed)
 
 pub let_statement-returns-in_err-valued : goal.let_statement-returns-in_err-valued
 let_statement-returns-in_err-valued t c =
     leaves _ _ c.from_residual-in_err-valued.ensures.1
-    (let_valued c.args.self.now (let_begun t (goal.at.let_statement-returns-in_err-valued t c).Joined-plain_name)
+    (let_valued c.args.self.now.source.now _ c.args.self.now.tokens_good _ (let_begun t (goal.at.let_statement-returns-in_err-valued t c).Joined-plain_name)
     c.in_ok-named.ensures.answer c.in_err-valued.ensures)
 
 pub let_statement-close_row-requires : goal.let_statement-close_row-requires
 let_statement-close_row-requires t c =
     closable _ _ c.args.self.now.tokens_good _ {t = c.args.rows.now} c.requires.stands
-    (let_valued c.args.self.now (let_begun t (goal.at.let_statement-close_row-requires t c).Joined-plain_name)
+    (let_valued c.args.self.now.source.now _ c.args.self.now.tokens_good _ (let_begun t (goal.at.let_statement-close_row-requires t c).Joined-plain_name)
     c.in_ok-named.ensures.answer c.in_ok-valued.ensures)
 
 pub let_statement-returns : goal.let_statement-returns
 let_statement-returns t c =
     row_read _ _ c.args.self.now.tokens_good _
-    (let_valued c.args.self.now (let_begun t (goal.at.let_statement-returns t c).Joined-plain_name)
+    (let_valued c.args.self.now.source.now _ c.args.self.now.tokens_good _ (let_begun t (goal.at.let_statement-returns t c).Joined-plain_name)
     c.in_ok-named.ensures.answer c.in_ok-valued.ensures)
     (omega arith) c.close_row.ensures.answer c.close_row.ensures.table
 
@@ -808,20 +808,20 @@ operation-returns t c =
 pub statement-returns-in_default : goal.statement-returns-in_default
 statement-returns-in_default t c =
     let here = none_number statement_form_number statement c.kind.ensures c.statement_form.ensures c.in_default.is in
-    rw c.no_program.ensures (statement_stuck c.args.self.now _ here)
+    rw c.no_program.ensures (statement_stuck c.args.self.now.source.now _ c.args.self.now.tokens_good _ _ here)
 
 pub statement-returns-then-eq : goal.statement-returns-then-eq
 statement-returns-then-eq t c =
     let is = same_true the_type _ c.in-Some.form Expression (sym c.eq.ensures ∙ c.if-eq.true) in
     let here = form_number statement_form_number statement c.kind.ensures c.statement_form.ensures c.in-Some.is is in
-    statement_expression c.args.self.now here c.requires c.expression.ensures
+    statement_expression c.args.self.now.source.now _ c.args.self.now.tokens_good _ here c.requires c.expression.ensures
 
 pub statement-returns-in_err-below : goal.statement-returns-in_err-below
 statement-returns-in_err-below t c =
     let here = form_number statement_form_number statement c.kind.ensures c.statement_form.ensures c.in-Some.is refl in
     let more = more_than_expression _ (same_false the_type c.in-Some.form Expression (sym c.eq.ensures ∙ c.if-eq.false)) in
     no_level _ _ c.from_residual.ensures.1 c.in_err-below.ensures.stops
-    (statement_deep c.args.self.now _ (omega (arith, here, more)))
+    (statement_deep c.args.self.now.source.now _ c.args.self.now.tokens_good _ _ (omega (arith, here, more)))
 
 pub statement-tilde_statement-requires : goal.statement-tilde_statement-requires
 statement-tilde_statement-requires t c =
@@ -883,7 +883,7 @@ statements-returns t c =
     c.repeated.ensures.reads _ _ _
     (repeats_by c.args.self.now _ statementList statement (λ r s. begins_part statement r.tokens.now s)
     (λ of at b asks. asks.1) (λ of rows after at result one. one.1)
-    (statements_list c.args.self.now))
+    (statements_list c.args.self.now.source.now _ c.args.self.now.tokens_good _))
 
 -- `tilde_statement`
 
@@ -893,35 +893,35 @@ tilde_statement-open-opened-requires-clause-some t c = some_kind statement no_st
 pub tilde_statement-returns-in_err-named : goal.tilde_statement-returns-in_err-named
 tilde_statement-returns-in_err-named t c =
     leaves _ _ c.from_residual.ensures.1
-    (for_each c.args.self.now c.requires.form c.requires.stands (add-one _)
+    (for_each c.args.self.now.source.now _ c.args.self.now.tokens_good _ c.requires.form c.requires.stands (add-one _)
     c.open-opened.ensures.answer (sym (c.two_names.ensures _ _) ∙ c.if-two_names.true) c.in_err-named.ensures.answer passed
     passed)
 
 pub tilde_statement-returns-in_err-listed : goal.tilde_statement-returns-in_err-listed
 tilde_statement-returns-in_err-listed t c =
     leaves _ _ c.from_residual-in_err-listed.ensures.1
-    (for_each c.args.self.now c.requires.form c.requires.stands (add-one _)
+    (for_each c.args.self.now.source.now _ c.args.self.now.tokens_good _ c.requires.form c.requires.stands (add-one _)
     c.open-opened.ensures.answer (sym (c.two_names.ensures _ _) ∙ c.if-two_names.true) c.in_ok-named.ensures.answer
     c.in_err-listed.ensures passed)
 
 pub tilde_statement-returns-in_err-ended : goal.tilde_statement-returns-in_err-ended
 tilde_statement-returns-in_err-ended t c =
     leaves _ _ c.from_residual-in_err-ended.ensures.1
-    (for_each c.args.self.now c.requires.form c.requires.stands (add-one _)
+    (for_each c.args.self.now.source.now _ c.args.self.now.tokens_good _ c.requires.form c.requires.stands (add-one _)
     c.open-opened.ensures.answer (sym (c.two_names.ensures _ _) ∙ c.if-two_names.true) c.in_ok-named.ensures.answer
     c.in_ok-listed.ensures c.in_err-ended.ensures.reads)
 
 pub tilde_statement-close_row-requires : goal.tilde_statement-close_row-requires
 tilde_statement-close_row-requires t c =
     closable _ _ c.args.self.now.tokens_good _ {t = c.args.rows.now} c.requires.stands
-    (for_each c.args.self.now c.requires.form c.requires.stands (add-one _)
+    (for_each c.args.self.now.source.now _ c.args.self.now.tokens_good _ c.requires.form c.requires.stands (add-one _)
     c.open-opened.ensures.answer (sym (c.two_names.ensures _ _) ∙ c.if-two_names.true) c.in_ok-named.ensures.answer
     c.in_ok-listed.ensures c.in_ok-ended.ensures.reads)
 
 pub tilde_statement-returns-then-two_names : goal.tilde_statement-returns-then-two_names
 tilde_statement-returns-then-two_names t c =
     row_read _ _ c.args.self.now.tokens_good _
-    (for_each c.args.self.now c.requires.form c.requires.stands (add-one _)
+    (for_each c.args.self.now.source.now _ c.args.self.now.tokens_good _ c.requires.form c.requires.stands (add-one _)
     c.open-opened.ensures.answer (sym (c.two_names.ensures _ _) ∙ c.if-two_names.true) c.in_ok-named.ensures.answer
     c.in_ok-listed.ensures c.in_ok-ended.ensures.reads)
     (omega arith) c.close_row.ensures.answer c.close_row.ensures.table
@@ -929,21 +929,21 @@ tilde_statement-returns-then-two_names t c =
 pub tilde_statement-returns-in_err-ended-2 : goal.tilde_statement-returns-in_err-ended-2
 tilde_statement-returns-in_err-ended-2 t c =
     leaves _ _ c.from_residual-in_err-ended-2.ensures.1
-    (while_loop c.args.self.now c.requires.form c.requires.stands (add-one _)
+    (while_loop c.args.self.now.source.now _ c.args.self.now.tokens_good _ c.requires.form c.requires.stands (add-one _)
     c.open-opened.ensures.answer (sym (c.two_names.ensures _ _) ∙ c.if-two_names.false) c.in_ok-tested.ensures
     (sym c.next_is.ensures ∙ c.if-next_is.true) c.in_err-ended-2.ensures.reads)
 
 pub tilde_statement-close_row-requires-then-next_is : goal.tilde_statement-close_row-requires-then-next_is
 tilde_statement-close_row-requires-then-next_is t c =
     closable _ _ c.args.self.now.tokens_good _ {t = c.args.rows.now} c.requires.stands
-    (while_loop c.args.self.now c.requires.form c.requires.stands (add-one _)
+    (while_loop c.args.self.now.source.now _ c.args.self.now.tokens_good _ c.requires.form c.requires.stands (add-one _)
     c.open-opened.ensures.answer (sym (c.two_names.ensures _ _) ∙ c.if-two_names.false) c.in_ok-tested.ensures
     (sym c.next_is.ensures ∙ c.if-next_is.true) c.in_ok-ended-2.ensures.reads)
 
 pub tilde_statement-returns-then-next_is : goal.tilde_statement-returns-then-next_is
 tilde_statement-returns-then-next_is t c =
     row_read _ _ c.args.self.now.tokens_good _
-    (while_loop c.args.self.now c.requires.form c.requires.stands (add-one _)
+    (while_loop c.args.self.now.source.now _ c.args.self.now.tokens_good _ c.requires.form c.requires.stands (add-one _)
     c.open-opened.ensures.answer (sym (c.two_names.ensures _ _) ∙ c.if-two_names.false) c.in_ok-tested.ensures
     (sym c.next_is.ensures ∙ c.if-next_is.true) c.in_ok-ended-2.ensures.reads)
     (omega arith) c.close_row-then-next_is.ensures.answer c.close_row-then-next_is.ensures.table
@@ -952,14 +952,14 @@ pub tilde_statement-returns-in_err-tested : goal.tilde_statement-returns-in_err-
 unfolding next_kind
 tilde_statement-returns-in_err-tested t c =
     leaves _ _ c.from_residual-in_err-tested.ensures.1
-    (tilde_complement c.args.self.now c.requires.form c.requires.stands
+    (tilde_complement c.args.self.now.source.now _ c.args.self.now.tokens_good _ c.requires.form c.requires.stands
     (add-one _) c.open-opened.ensures.answer
     (sym (c.two_names.ensures _ _) ∙ c.if-two_names.false) c.in_err-tested.ensures refl)
 
 pub tilde_statement-close_row-requires-2 : goal.tilde_statement-close_row-requires-2
 tilde_statement-close_row-requires-2 t c =
     closable _ _ c.args.self.now.tokens_good _ {t = c.args.rows.now} c.requires.stands
-    (tilde_complement c.args.self.now c.requires.form c.requires.stands
+    (tilde_complement c.args.self.now.source.now _ c.args.self.now.tokens_good _ c.requires.form c.requires.stands
     (add-one _) c.open-opened.ensures.answer
     (sym (c.two_names.ensures _ _) ∙ c.if-two_names.false) c.in_ok-tested.ensures
     (sym c.next_is.ensures ∙ c.if-next_is.false))
@@ -967,7 +967,7 @@ tilde_statement-close_row-requires-2 t c =
 pub tilde_statement-returns : goal.tilde_statement-returns
 tilde_statement-returns t c =
     row_read _ _ c.args.self.now.tokens_good _
-    (tilde_complement c.args.self.now c.requires.form c.requires.stands
+    (tilde_complement c.args.self.now.source.now _ c.args.self.now.tokens_good _ c.requires.form c.requires.stands
     (add-one _) c.open-opened.ensures.answer
     (sym (c.two_names.ensures _ _) ∙ c.if-two_names.false) c.in_ok-tested.ensures
     (sym c.next_is.ensures ∙ c.if-next_is.false))
