@@ -1,16 +1,16 @@
 -- Prepared lists: a word that does not pass is none of the names that are let through, one that passes is asked of all; and where the
 -- slots of all names are set, all are let through. Assumes nothing.
 use Prim.Native.Nat.{ℕ, zero, ◌+◌, ◌-◌, ◌<◌, ◌≤◌}
-use mathlib.Core.Path.{◌≡◌, refl, ◌∙◌, ap}
+use mathlib.Core.Path.{◌≡◌, refl, sym, ◌∙◌, ap}
 use mathlib.Core.Bool.{Bool, true, false}
 use mathlib.Core.List.{List, [], ◌∷◌, ◌++◌, append-nil}
 use mathlib.Core.Logic.{⊎_elim}
 use native.Mathlib.Omega.{arith}
 use denote.Ref.{Bor}
 use borrow.Rule.Slice.PartMut.{put_mid}
-use lib.ListN.{length, take, drop, length-drop}
+use lib.ListN.{length, take, drop, get_or, set, length-drop}
 use lib.Seq.{drop-length, drop_at, length-take-le}
-use Rattle.std.proofs.lemmas.List.{take_rest}
+use Rattle.std.proofs.lemmas.List.{take_rest, take_all, take_more, take_more_set}
 use Rattle.std.proofs.Common.{rules}
 use Rattle.std.proofs.lemmas.Slice.{overwrites}
 use Rattle.std.specs.Prelude.{Option, Some, None, unwrap_or}
@@ -84,6 +84,14 @@ unfolding prepared_names type_names
 all_prepared opening p list ts room after =
     let names = entries list ++ declared opening zero ts in
     rw (all_list p names, after) (all_passing p names room)
+
+-- a list that is copied byte by byte, so far
+module _ (copy list : List ℕ) (at : ℕ) (long : length copy ≡ length list) (so_far : take at copy ≡ take at list) where
+  pub copied_more : at < length list → take (at + 1) (set copy at (get_or list at 0)) ≡ take (at + 1) list
+  copied_more below = rw (take_more_set copy at (get_or list at 0) (omega arith), so_far) (sym (take_more list at 0 below))
+
+  pub copied_all : length list ≤ at → copy ≡ list
+  copied_all end = sym (take_all at copy (omega arith)) ∙ so_far ∙ take_all at list end
 
 -- a list that is copied to the end of another
 module _ (a : ℕ) (p copy list : List ℕ) (room : length p ≡ a + length list) (is : copy ≡ list) where
