@@ -11,7 +11,7 @@ use denote.Ref.{Bor}
 use borrow.Rule.Slice.PartMut.{put_mid}
 use lib.ListN.{length, take, drop, get_or, set, length-drop}
 use lib.Seq.{drop-length, drop_at, length-take-le, drop-set-add, take-suc, take-suc-set, take_all}
-use Rattle.std.proofs.lemmas.List.{take_rest}
+use Rattle.std.proofs.lemmas.List.{take_rest, take_more, take_more_set}
 use Rattle.std.proofs.Common.{rules}
 use Rattle.std.proofs.lemmas.Slice.{overwrites}
 use Rattle.std.specs.Prelude.{Option, Some, None, unwrap_or}
@@ -98,6 +98,14 @@ module _ (p list : List ℕ) (at : ℕ) (room : length p ≡ slots + length list
   copied_all end =
       let l = length-drop slots p in
       sym (take_all at (drop slots p) (omega arith)) ∙ copied ∙ take_all at list end
+
+-- a list that is copied byte by byte, so far
+module _ (copy list : List ℕ) (at : ℕ) (long : length copy ≡ length list) (so_far : take at copy ≡ take at list) where
+  pub copying_more : at < length list → take (at + 1) (set copy at (get_or list at 0)) ≡ take (at + 1) list
+  copying_more below = rw (take_more_set copy at (get_or list at 0) (omega arith), so_far) (sym (take_more list at 0 below))
+
+  pub copying_all : length list ≤ at → copy ≡ list
+  copying_all end = sym (take_all at copy (omega arith)) ∙ so_far ∙ take_all at list end
 
 -- a list that is copied to the end of another
 module _ (a : ℕ) (p copy list : List ℕ) (room : length p ≡ a + length list) (is : copy ≡ list) where
