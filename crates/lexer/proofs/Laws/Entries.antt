@@ -114,7 +114,7 @@ letter_kind b alone said = eqb-true _ _ (kind_said (ByteEntry.Letter alone) b sa
 
 pub longer_kind : (b : ℕ) (alone : TokenKind) → says (ByteEntry.Longer alone) b ≡ true → kind17 (b ∷ []) ≡ kind_number alone
 unfolding says_kind
-longer_kind b alone said = eqb-true _ _ (kind_said (ByteEntry.Longer alone) b said)
+longer_kind b alone said = eqb-true _ _ (and_left _ _ (kind_said (ByteEntry.Longer alone) b said))
 
 -- a byte that is a mark does not begin an arrow
 no_arrow : (b : ℕ) (kind : TokenKind) → kind17 (b ∷ []) ≡ kind_number kind → b ≡ 0xE2 → ⊥

@@ -35,13 +35,14 @@ entry_class (ByteEntry.Mark kind) = 6
 entry_class (ByteEntry.Longer alone) = 6
 entry_class ByteEntry.Other = 6
 
--- whether a byte alone has the kind that an entry has, and no longer mark begins with it where the entry says so
+-- whether a byte alone has the kind that an entry has, or none where the entry says so, and whether a longer mark begins with it as the
+-- entry says
 unfoldable pub says_kind : ByteEntry → ℕ → Bool
 says_kind (ByteEntry.Letter alone) b = eqb (word_kind (b ∷ [])) (kind_number alone)
 says_kind (ByteEntry.Mark kind) b = and (alone_is b (kind_number kind)) (begins_none b edition17.marks)
-says_kind (ByteEntry.Longer alone) b = alone_is b (kind_number alone)
+says_kind (ByteEntry.Longer alone) b = and (alone_is b (kind_number alone)) (not (begins_none b edition17.marks))
 says_kind ByteEntry.Digit b = true
-says_kind ByteEntry.Other b = true
+says_kind ByteEntry.Other b = alone_is b 0
 says_kind ByteEntry.Slash b = true
 says_kind ByteEntry.Backtick b = true
 says_kind ByteEntry.Space b = true
