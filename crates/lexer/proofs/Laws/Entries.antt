@@ -87,6 +87,21 @@ goes_not_on ByteEntry.Backtick b byte said letter digit = sym (by_class b 5 byte
 goes_not_on ByteEntry.Space b byte said letter digit = sym (by_class b 2 byte (class_said _ b said))
 goes_not_on ByteEntry.Minus b byte said letter digit = sym (by_class b 3 byte (class_said _ b said))
 
+-- a byte whose entry is another than that of spaces is no space
+other_class : (entry : ByteEntry) → (entry ≡ ByteEntry.Space → ⊥) → eqb (entry_class entry) 2 ≡ false
+other_class (ByteEntry.Letter alone) other = refl
+other_class ByteEntry.Digit other = refl
+other_class (ByteEntry.Mark kind) other = refl
+other_class (ByteEntry.Longer alone) other = refl
+other_class ByteEntry.Other other = refl
+other_class ByteEntry.Slash other = refl
+other_class ByteEntry.Backtick other = refl
+other_class ByteEntry.Space other = absurd (other refl)
+other_class ByteEntry.Minus other = refl
+
+pub no_space_there : (entry : ByteEntry) (b : ℕ) → b < 256 → says entry b ≡ true → (entry ≡ ByteEntry.Space → ⊥) → false ≡ is_space b
+no_space_there entry b byte said other = rw (← class_space b byte, class_said entry b said, other_class entry other)
+
 -- what a byte is, by its entry
 module _ (b : ℕ) (byte : b < 256) where
   pub letter_there : (alone : TokenKind) → says (ByteEntry.Letter alone) b ≡ true → is_letter b ≡ true
