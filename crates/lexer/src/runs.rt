@@ -29,13 +29,13 @@ impl ByteTest for Space {
 
 // Whether a byte is a digit.
 #[derive(Clone, Copy)]
-struct Digit;
+pub(crate) struct Digit;
 
 impl ByteTest for Digit {
     ghost holds = { λ test. is_digit };
 
     fn passes(&self, b: u8) -> bool {
-        b.is_ascii_digit()
+        matches!(ByteEntry::of(b), ByteEntry::Digit)
     }
 }
 
