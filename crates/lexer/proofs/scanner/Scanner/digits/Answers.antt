@@ -1,5 +1,5 @@
 -- `lexer::scanner::Scanner::digits` meets its contract: the digits after the first end before the source does. Assumes nothing.
-use Prim.Native.Nat.{◌+◌, ◌<◌}
+use Prim.Native.Nat.{◌+◌}
 use mathlib.Core.Path.{◌≡◌, ◌∙◌, sym}
 use native.Mathlib.Omega.{arith}
 use lib.ListN.{drop}
