@@ -29,8 +29,8 @@ pub bounded_next : (s : List ℕ) (at : ℕ) → Bounded s at → is_word_byte (
 bounded_next s at bounded on = rw (run_goes_on is_word_byte s at (omega arith) on) at bounded
 
 -- .. and so are digits from the place after the first
-pub digits-bounded : (s : List ℕ) (at : ℕ) → Bounded s at → is_digit (get_or s at 0) ≡ true → at + 1 + run is_digit (drop (at + 1) s) < length s
-digits-bounded s at bounded digit =
+pub digits-inside : (s : List ℕ) (at : ℕ) → Bounded s at → is_digit (get_or s at 0) ≡ true → at + 1 + run is_digit (drop (at + 1) s) < length s
+digits-inside s at bounded digit =
     let next = bounded_next s at bounded (digit_on _ digit) in
     let less = run_narrow is_digit is_word_byte digit_on (drop (at + 1) s) in
     omega arith

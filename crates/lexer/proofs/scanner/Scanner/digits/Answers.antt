@@ -4,17 +4,17 @@ use mathlib.Core.Path.{◌≡◌, ◌∙◌, sym}
 use native.Mathlib.Omega.{arith}
 use lib.ListN.{drop}
 use Rattle.lexer.specs.Bytes.{is_digit, run}
-use Rattle.lexer.proofs.Laws.Bounded.{digits-bounded}
+use Rattle.lexer.proofs.Laws.Bounded.{digits-inside}
 use Rattle.lexer.proofs.Laws.Runs.{run_goes_on}
 use Rattle.lexer.proofs.Laws.Numbers.{unsigned_from}
 use Rattle.lexer.proofs.scanner.Scanner.digits.Goals as goal
 
 pub end_inside-whole-requires : goal.end_inside-whole-requires
-end_inside-whole-requires c = digits-bounded c.args.self.now.source.now c.args.at c.requires.bounded c.requires.digit
+end_inside-whole-requires c = digits-inside c.args.self.now.source.now c.args.at c.requires.bounded c.requires.digit
 
 pub number_from-requires : goal.number_from-requires
 number_from-requires c =
-    let inside = digits-bounded c.args.self.now.source.now c.args.at c.requires.bounded c.requires.digit in
+    let inside = digits-inside c.args.self.now.source.now c.args.at c.requires.bounded c.requires.digit in
     let whole = c.end_inside-whole.ensures in
     (omega arith, omega arith)
 
