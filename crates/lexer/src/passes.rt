@@ -64,6 +64,7 @@ impl Scanner<'_> {
 
     // The place of the last byte over which no word goes on, or 0. No `Option`: it is asked only what stands before it, which is nothing
     // at 0, and with `None` each turn of the pass would ask two things for that one.
+    #[tactic(auto, unfolding(crate::specs::Bytes::is_word_byte, crate::specs::Bytes::is_letter, crate::specs::Bytes::is_digit, crate::specs::Tests::or, crate::specs::Tests::and, crate::specs::Tests::between))]
     fn last_stop(&self) -> usize
         ensures { Stop self.now.source.now result }
     {

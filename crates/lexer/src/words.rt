@@ -30,6 +30,7 @@ fn ident_end(source: &[u8], at: usize) -> usize
 }
 
 // Whether two colons stand at `at`.
+#[tactic(auto, using(crate::proofs::Laws::Words::colons_at, crate::proofs::Laws::Fronts::byte_tested), unfolding(crate::specs::Tests::and))]
 pub fn two_colons(source: &[u8], at: usize) -> bool
     ensures { result ≡ two_colons (drop at source.now) }
 {

@@ -4,7 +4,9 @@ use Prim.Native.Char.{code}
 use Prim.Native.Nat.{ℕ, ◌<◌}
 use mathlib.Core.Path.{◌≡◌, refl, ◌∙◌}
 use mathlib.Core.Bool.{Bool, true, false}
+use mathlib.Core.List.{[], ◌∷◌}
 use lib.Dec.{T, eqb}
+use borrow.Author.Tests.{ne_eqb}
 use denote.Enum.Bare.{sameb}
 use Rattle.lexer.specs.Tests.{and, or, between}
 use Rattle.lexer.specs.Bytes.{is_digit, is_letter, is_space}
@@ -12,7 +14,7 @@ use Rattle.lexer.specs.internal.Leaves.{byte_class, class_number}
 use Rattle.lexer.specs.contracts.bytes.ByteClass.{the_type}
 use Rattle.lexer.specs.declared.bytes.ByteClass.{ByteClass}
 use Rattle.lexer.specs.declared.bytes.ByteClass.TheVariants.{Digit, Letter, Space, Minus, Slash, Backtick, Other}
-use Rattle.lexer.proofs.Laws.Computed.{all, all-at}
+use Rattle.lexer.proofs.Laws.Computed.{all, all-at, None}
 
 -- whether two tests agree
 unfoldable pub agree : Bool → Bool → Bool
@@ -59,6 +61,11 @@ class_slash = class_test 4 (λ b. eqb b (code "/")) tt
 pub class_backtick : (b : ℕ) → b < 256 → eqb (byte_class b) 5 ≡ eqb b (code "`")
 unfolding agree byte_class and or between is_digit is_letter is_space
 class_backtick = class_test 5 (λ b. eqb b (code "`")) tt
+
+-- a byte that is none of the four spaces
+pub no_space : (b : ℕ) → None (13 ∷ 9 ∷ 10 ∷ 32 ∷ []) b → is_space b ≡ false
+unfolding is_space or
+no_space b h = rw (ne_eqb _ _ h.0.0.0.1, ne_eqb _ _ h.0.0.1, ne_eqb _ _ h.0.1, ne_eqb _ _ h.1)
 
 -- whether the class found is that of letters
 pub letter_told : (class : ByteClass) (b : ℕ) → b < 256 → class_number class ≡ byte_class b → sameb the_type class Letter ≡ is_letter b

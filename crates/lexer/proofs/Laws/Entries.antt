@@ -87,6 +87,36 @@ goes_not_on ByteEntry.Backtick b byte said letter digit = sym (by_class b 5 byte
 goes_not_on ByteEntry.Space b byte said letter digit = sym (by_class b 2 byte (class_said _ b said))
 goes_not_on ByteEntry.Minus b byte said letter digit = sym (by_class b 3 byte (class_said _ b said))
 
+-- a byte whose entry is another than that of spaces is no space, and no digit where it is another than that of digits
+not_space : (entry : ByteEntry) → (entry ≡ ByteEntry.Space → ⊥) → eqb (entry_class entry) 2 ≡ false
+not_space (ByteEntry.Letter alone) other = refl
+not_space ByteEntry.Digit other = refl
+not_space (ByteEntry.Mark kind) other = refl
+not_space (ByteEntry.Longer alone) other = refl
+not_space ByteEntry.Other other = refl
+not_space ByteEntry.Slash other = refl
+not_space ByteEntry.Backtick other = refl
+not_space ByteEntry.Space other = absurd (other refl)
+not_space ByteEntry.Minus other = refl
+
+not_digit : (entry : ByteEntry) → (entry ≡ ByteEntry.Digit → ⊥) → eqb (entry_class entry) 0 ≡ false
+not_digit (ByteEntry.Letter alone) other = refl
+not_digit ByteEntry.Digit other = absurd (other refl)
+not_digit (ByteEntry.Mark kind) other = refl
+not_digit (ByteEntry.Longer alone) other = refl
+not_digit ByteEntry.Other other = refl
+not_digit ByteEntry.Slash other = refl
+not_digit ByteEntry.Backtick other = refl
+not_digit ByteEntry.Space other = refl
+not_digit ByteEntry.Minus other = refl
+
+module _ (entry : ByteEntry) (b : ℕ) (byte : b < 256) (said : says entry b ≡ true) where
+  pub no_space_there : (entry ≡ ByteEntry.Space → ⊥) → false ≡ is_space b
+  no_space_there other = rw (← class_space b byte, class_said entry b said, not_space entry other)
+
+  pub no_digit_there : (entry ≡ ByteEntry.Digit → ⊥) → false ≡ is_digit b
+  no_digit_there other = rw (← class_digit b byte, class_said entry b said, not_digit entry other)
+
 -- what a byte is, by its entry
 module _ (b : ℕ) (byte : b < 256) where
   pub letter_there : (alone : TokenKind) → says (ByteEntry.Letter alone) b ≡ true → is_letter b ≡ true

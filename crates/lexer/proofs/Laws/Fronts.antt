@@ -7,6 +7,7 @@ use lib.Dec.{eqb, ltb}
 use lib.ListN.{length, drop, get_or, drop_of_length-le}
 use lib.Seq.{drop-cons}
 use native.Mathlib.Numerals.{add-one}
+use native.Mathlib.Nat.{add_assoc}
 use native.Mathlib.Omega.{arith}
 use borrow.Author.Tests.{ltb-true, ltb-false, ne_eqb}
 use Rattle.std.specs.Prelude.{Option, Some, None, is_some}
@@ -26,6 +27,12 @@ module _ (s : List ℕ) (at : ℕ) where
 
   pub front_last : at < length s → length s ≤ at + 1 → drop at s ≡ get_or s at 0 ∷ []
   front_last h e = rw (front_one h) (rw (drop_of_length-le s e))
+
+module _ (s : List ℕ) (at : ℕ) where
+  pub front_two : at + 1 < length s → drop at s ≡ get_or s at 0 ∷ get_or s (at + 1) 0 ∷ drop (at + 2) s
+  front_two h =
+      let below : at < length s = omega arith in
+      rw (front_one s at below, front_one s (at + 1) h, add_assoc)
 
 -- the byte that a test finds at the front is the first
 pub begins_one : (a b : ℕ) (t : List ℕ) → begins a (b ∷ t) ≡ true → eqb b a ≡ true

@@ -1,5 +1,5 @@
 -- Where the bytes of a source stand: in two parts, within a line, and after it. Assumes nothing.
-use Prim.Native.Nat.{ℕ, suc, ◌+◌, ◌≤◌, ◌<◌}
+use Prim.Native.Nat.{ℕ, zero, suc, ◌+◌, ◌-◌, ◌≤◌, ◌<◌}
 use mathlib.Core.Path.{◌≡◌, refl, sym, ◌∙◌, ap}
 use mathlib.Core.Bool.{Bool, true, false}
 use mathlib.Core.List.{List, [], ◌∷◌, ◌++◌}
@@ -7,11 +7,11 @@ use native.Mathlib.Numerals.{add-one}
 use native.Mathlib.Omega.{arith}
 use native.Mathlib.Nat.{zero-add, add-zero, add-suc, suc-add}
 use lib.ListN.{length, take, drop, get_or}
-use lib.Seq.{length-take-le, drop-cons, take-add}
-use Rattle.lexer.specs.Bytes.{is_in_line}
+use lib.Seq.{length-take-le, drop-cons, take_all, take-add}
+use Rattle.lexer.specs.Bytes.{is_in_line, run}
 use Rattle.lexer.specs.Locations.{origin, next, after, location_of}
 use Rattle.lexer.specs.declared.Location.{Location}
-use Rattle.lexer.proofs.Laws.Runs.{is_stop, is_other}
+use Rattle.lexer.proofs.Laws.Runs.{run_nil, run_pass, run_stop, is_stop, is_other}
 
 -- byte 10 ends a line, and no other byte does
 pub ends_line : (b : ℕ) → b ≡ 10 → is_in_line b ≡ false
@@ -36,8 +36,37 @@ next-line : (at : Location) (b : ℕ) → is_in_line b ≡ false → next at b �
 unfolding next
 next-line at b h = rw h
 
+-- so many columns further on in a line
+abbrev along : Location → ℕ → Location
+along at n = record { line = at.line; column = at.column + n }
+
+-- bytes that stand in a line
+in_line_by : (at : Location) (n b : ℕ) (s : List ℕ) (t : Bool) → is_in_line b ≡ t → suc n ≤ run is_in_line (b ∷ s)
+    → (n ≤ run is_in_line s → after (along at 1) (take n s) ≡ along (along at 1) n) → after at (take (suc n) (b ∷ s)) ≡ along at (suc n)
+unfolding after
+in_line_by at n b s true h within more =
+    let goes = run_pass is_in_line b s h in
+    let step : next at b ≡ along at 1 = next_in_line at b h ∙ ap (λ (c : ℕ). record { line = at.line; column = c }) (omega arith) in
+    ap (λ (x : Location). after x (take n s)) step
+    ∙ more (omega arith)
+    ∙ ap (λ (c : ℕ). record { line = at.line; column = c }) (omega arith)
+in_line_by at n b s false h within more = absurd (let ends = run_stop is_in_line b s h in omega arith)
+
+in_line : (at : Location) (n : ℕ) (s : List ℕ) → n ≤ run is_in_line s → after at (take n s) ≡ along at n
+unfolding after
+in_line at zero s within = ap (λ (c : ℕ). record { line = at.line; column = c }) (sym (add-zero at.column))
+in_line at (suc n) [] within = absurd (let none = run_nil is_in_line in omega arith)
+in_line at (suc n) (b ∷ s) within = in_line_by at n b s (is_in_line b) refl within (in_line (along at 1) n s)
+
 location_more : (s : List ℕ) (m n : ℕ) → location_of s (m + n) ≡ after (location_of s m) (take n (drop m s))
 location_more s m n = ap (after origin) (take-add m n s) ∙ after_append origin (take m s) (take n (drop m s))
+
+-- a byte of a line stands as many columns after another as it stands bytes after it
+pub location_in_line : (s : List ℕ) (first place : ℕ) → first ≤ place → place ≤ first + run is_in_line (drop first s)
+    → location_of s place ≡ record { line = (location_of s first).line; column = (location_of s first).column + (place - first) }
+location_in_line s first place on within =
+    let split : first + (place - first) ≡ place = omega arith in
+    rw split at (location_more s first (place - first) ∙ in_line (location_of s first) (place - first) (drop first s) (omega arith))
 
 -- after the end of a line the next one begins
 pub location_next_line : (s : List ℕ) (end : ℕ) → end < length s → is_in_line (get_or s end 0) ≡ false
@@ -65,6 +94,10 @@ module _ (s : List ℕ) (i line column : ℕ) (inside : i < length s)
 pub origin-first : (s : List ℕ) → origin ≡ location_of s 0
 unfolding after
 origin-first s = refl
+
+-- from the length on every offset is the end
+pub location_past : (s : List ℕ) (i offset : ℕ) → length s ≤ i → length s ≤ offset → location_of s i ≡ location_of s offset
+location_past s i offset past beyond = rw (take_all i s past, take_all offset s beyond)
 
 -- neither number is larger than the bytes before, and one more
 pub record Small (at : Location) (bytes : ℕ) : Type 0 where

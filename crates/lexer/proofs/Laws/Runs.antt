@@ -35,6 +35,23 @@ pub run_le : (p : ℕ → Bool) (s : List ℕ) → run p s ≤ length s
 run_le p [] = rw run_nil zero-le
 run_le p (b ∷ s) = run_le_by p b s (p b) refl (run_le p s)
 
+-- a test that passes wherever another does runs at least as far
+module _ (p q : ℕ → Bool) (wider : (b : ℕ) → p b ≡ true → q b ≡ true) where
+  run_narrow_by : (b : ℕ) (s : List ℕ) (t : Bool) → p b ≡ t → run p s ≤ run q s → run p (b ∷ s) ≤ run q (b ∷ s)
+  run_narrow_by b s true h below = rw (run_pass p b s h, run_pass q b s (wider b h)) (suc-le-suc below)
+  run_narrow_by b s false h below = rw (run_stop p b s h) zero-le
+
+  pub run_narrow : (s : List ℕ) → run p s ≤ run q s
+  run_narrow [] = rw (run_nil p) zero-le
+  run_narrow (b ∷ s) = run_narrow_by b s (p b) refl (run_narrow s)
+
+-- two tests that agree at every byte run equally far
+module _ (p q : ℕ → Bool) (agreeing : (b : ℕ) → b < 256 → p b ≡ q b) where
+  pub run_same : (s : List ℕ) → ((i : ℕ) → get_or s i 0 < 256) → run p s ≡ run q s
+  unfolding run
+  run_same [] bytes = refl
+  run_same (b ∷ s) bytes = rw (agreeing b (bytes 0), run_same s (λ i. bytes (suc i)))
+
 -- a run from a place on
 module _ (p : ℕ → Bool) (s : List ℕ) (i : ℕ) where
   pub run_past : length s ≤ i → run p (drop i s) ≡ 0
@@ -74,6 +91,10 @@ module _ (p : ℕ → Bool) (s : List ℕ) (at i : ℕ) (so_far : Goes p s at i)
 
   pub follow_past : length s ≤ i → i ≡ at + run p (drop at s)
   follow_past h = sym (add-zero i) ∙ rw (run_past p s i h) at so_far
+
+  -- .. to a place that is the next one
+  pub follow_to : (j : ℕ) → j ≡ i + 1 → i < length s → p (get_or s i 0) ≡ true → Goes p s at j
+  follow_to j next h e = rw next (follow_on h e)
 
 -- a run up to a byte
 pub is_stop : (stop b : ℕ) → b ≡ stop → is_not stop b ≡ false

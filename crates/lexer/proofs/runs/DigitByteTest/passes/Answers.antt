@@ -1,11 +1,10 @@
--- `lexer::runs::DigitByteTest::passes` meets its contract, by one computed test over all bytes. Assumes nothing.
-use mathlib.Core.Path.{◌∙◌}
-use Rattle.std.specs.Char.{is_ascii_digit}
-use Rattle.lexer.specs.Tests.{between, and}
-use Rattle.lexer.specs.Bytes.{is_digit}
-use Rattle.lexer.proofs.Laws.Classes.{agree, same_test}
+-- `lexer::runs::DigitByteTest::passes` meets its contract: the table tells it. Assumes nothing.
+use mathlib.Core.Path.{sym}
+use Rattle.lexer.proofs.Laws.Entries.{digit_there, no_digit_there}
 use Rattle.lexer.proofs.runs.DigitByteTest.passes.Goals as goal
 
-pub returns : goal.returns
-unfolding is_digit between and agree
-returns c = c.is_ascii_digit.ensures.value ∙ same_test is_ascii_digit is_digit tt _ c.ranges.b.fits
+pub returns-in-Digit : goal.returns-in-Digit
+returns-in-Digit c = sym (digit_there _ c.ranges.b.fits c.in-Digit.ensures)
+
+pub returns-in_default : goal.returns-in_default
+returns-in_default c = no_digit_there _ _ c.ranges.b.fits c.of.ensures c.in_default.not-Digit

@@ -1,11 +1,10 @@
--- `lexer::runs::SpaceByteTest::passes` meets its contract, by one computed test over all bytes. Assumes nothing.
-use mathlib.Core.Bool.{◌||◌}
-use lib.Dec.{eqb}
-use Rattle.lexer.specs.Tests.{or}
-use Rattle.lexer.specs.Bytes.{is_space}
-use Rattle.lexer.proofs.Laws.Classes.{agree, same_test}
+-- `lexer::runs::SpaceByteTest::passes` meets its contract: the table tells it. Assumes nothing.
+use mathlib.Core.Path.{sym}
+use Rattle.lexer.proofs.Laws.Entries.{space_there, no_space_there}
 use Rattle.lexer.proofs.runs.SpaceByteTest.passes.Goals as goal
 
-pub returns : goal.returns
-unfolding is_space or agree
-returns c = same_test (λ b. ((eqb b 32 || eqb b 9) || eqb b 10) || eqb b 13) is_space tt _ c.ranges.b.fits
+pub returns-in-Space : goal.returns-in-Space
+returns-in-Space c = sym (space_there _ c.ranges.b.fits c.in-Space.ensures)
+
+pub returns-in_default : goal.returns-in_default
+returns-in_default c = no_space_there _ _ c.ranges.b.fits c.of.ensures c.in_default.not-Space

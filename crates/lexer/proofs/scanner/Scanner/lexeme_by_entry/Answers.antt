@@ -24,10 +24,8 @@ word-requires-clause-letter c = letter_there _ (byte (goal.at.word-requires-clau
 pub word-requires-clause-alone : goal.word-requires-clause-alone
 word-requires-clause-alone c = letter_kind _ c.in-Letter.alone c.in-Letter.ensures
 
-pub digits_at-requires : goal.digits_at-requires
-digits_at-requires c =
-    let start = (goal.at.digits_at-requires c).After-of in
-    (inside start, digit_there _ (byte start) c.in-Digit.ensures)
+pub digits-requires-clause-digit : goal.digits-requires-clause-digit
+digits-requires-clause-digit c = digit_there _ (byte (goal.at.digits-requires-clause-digit c).After-of) c.in-Digit.ensures
 
 pub longer_mark-requires-clause-alone : goal.longer_mark-requires-clause-alone
 longer_mark-requires-clause-alone c = longer_kind _ c.in-Longer.alone c.in-Longer.ensures
@@ -60,7 +58,7 @@ returns-in-Letter c =
 pub returns-in-Digit : goal.returns-in-Digit
 returns-in-Digit c =
     let start = (goal.at.returns-in-Digit c).After-of in
-    c.digits_at.ensures ∙ sym (digit_lexeme _ _ _ (inside start) (byte start) c.in-Digit.ensures)
+    c.digits.ensures ∙ sym (digit_lexeme _ _ _ (inside start) (byte start) c.in-Digit.ensures)
 
 pub returns-in-Mark : goal.returns-in-Mark
 returns-in-Mark c =

@@ -3,13 +3,13 @@
 use Prim.Native.Nat.{◌+◌}
 use mathlib.Core.Path.{◌∙◌, sym}
 use native.Mathlib.Omega.{arith}
-use Rattle.lexer.proofs.Laws.Bounded.{bounded_next, IdentEnds, ident_there, word-inside, long_ident, letter_ident, letter_alone}
+use Rattle.lexer.proofs.Laws.Bounded.{letter_next, IdentEnds, ident_there, word-inside, long_ident, letter_ident, letter_alone}
 use Rattle.lexer.proofs.Laws.KindNumbers.{is_ident, not_ident}
 use Rattle.lexer.proofs.scanner.Scanner.word.Goals as goal
 use Rattle.lexer.proofs.scanner.Scanner.word.Goals.{After-end_inside-end, Else-ne}
 
 pub bounds-source-next : goal.bounds-source-next
-bounds-source-next c = let next = bounded_next c.args.self.now.source.now c.args.at c.requires.letter c.requires.bounded in omega arith
+bounds-source-next c = let next = letter_next c.args.self.now.source.now c.args.at c.requires.letter c.requires.bounded in omega arith
 
 pub end_inside-end-requires : goal.end_inside-end-requires
 end_inside-end-requires c =
