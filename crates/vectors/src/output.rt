@@ -1,10 +1,10 @@
-// Output by way of lent room, which is written when it is full.
+// Output by way of lent room, which is written when what comes next has no room there.
 ghost use Rattle.std.specs.Prelude.{◌≤◌, length};
 
 use std::io;
 use std::io::Write;
 
-// What is printed, and what has been put into lent room and is not written yet. Where a write fails, the program ends.
+// Where the output goes, and lent room with what of it is not written yet. Where a write fails, the program ends.
 #[derive(Drop)]
 pub(crate) struct Page<'a, P: Print> {
     out: &'a P,
@@ -17,25 +17,41 @@ impl<'a, P: Print> Page<'a, P> {
     pub(crate) fn new(out: &'a P, room: &'a mut [u8]) -> Page<'a, P> {
         Page { out, room, size: 0 }
     }
+
+    // Puts bytes if there is room for all of them, and answers whether there is.
+    fn put(&mut self, bytes: &[u8]) -> bool {
+        let room = &mut *self.room;
+        let free = &mut room[self.size..];
+        if free.len() < bytes.len() {
+            return false;
+        }
+        free[..bytes.len()].copy_from_slice(bytes);
+        self.size += bytes.len();
+        true
+    }
 }
 
 impl<P: Print> Write for Page<'_, P> {
-    // Puts as many bytes as there is room for, and writes the room where it is full then.
     fn write(&mut self, bytes: &[u8]) -> io::Result<usize> {
-        let room = &mut *self.room;
-        let free = &mut room[self.size..];
-        let count = bytes.len().min(free.len());
-        free[..count].copy_from_slice(&bytes[..count]);
-        self.size += count;
-        if self.size == self.room.len() {
-            self.flush()?;
-        }
-        Ok(count)
+        self.write_all(bytes)?;
+        Ok(bytes.len())
     }
 
     fn flush(&mut self) -> io::Result<()> {
         self.out.write_all(&self.room[..self.size])?;
         self.size = 0;
         Ok(())
+    }
+
+    // What is longer than the whole room is written as it is.
+    fn write_all(&mut self, bytes: &[u8]) -> io::Result<()> {
+        if self.put(bytes) {
+            return Ok(());
+        }
+        self.flush()?;
+        if self.put(bytes) {
+            return Ok(());
+        }
+        self.out.write_all(bytes)
     }
 }
