@@ -19,6 +19,7 @@ impl<'a, P: Print> Page<'a, P> {
     }
 
     // Puts bytes if there is room for all of them, and answers whether there is.
+    #[inline(always)]
     fn put(&mut self, bytes: &[u8]) -> bool {
         let room = &mut *self.room;
         let free = &mut room[self.size..];
@@ -28,6 +29,16 @@ impl<'a, P: Print> Page<'a, P> {
         free[..bytes.len()].copy_from_slice(bytes);
         self.size += bytes.len();
         true
+    }
+
+    // Writes what has been put, and then puts bytes. What is longer than the whole room is written as it is.
+    #[inline(never)]
+    fn put_after_flush(&mut self, bytes: &[u8]) -> io::Result<()> {
+        self.flush()?;
+        if self.put(bytes) {
+            return Ok(());
+        }
+        self.out.write_all(bytes)
     }
 }
 
@@ -43,15 +54,11 @@ impl<P: Print> Write for Page<'_, P> {
         Ok(())
     }
 
-    // What is longer than the whole room is written as it is.
+    #[inline(always)]
     fn write_all(&mut self, bytes: &[u8]) -> io::Result<()> {
         if self.put(bytes) {
             return Ok(());
         }
-        self.flush()?;
-        if self.put(bytes) {
-            return Ok(());
-        }
-        self.out.write_all(bytes)
+        self.put_after_flush(bytes)
     }
 }

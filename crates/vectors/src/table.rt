@@ -10,9 +10,6 @@ const MOST_PRINTED: usize = 12000;
 // The largest prime below 2 to the 32nd.
 const DIGEST_PRIME: u64 = 4294967291;
 
-// The most digits of a number.
-const MOST_DIGITS: usize = 10;
-
 // The numbers in a row, and the first number before a case.
 #[derive(Clone, Copy)]
 pub(crate) struct Layout {
@@ -78,16 +75,9 @@ fn print_line<W: Write>(out: &mut W, numbers: &[u32]) -> io::Result<()> {
         return Ok(());
     };
     for n in others {
-        print_number(out, *n, b' ')?;
+        write!(out, "{n} ")?;
     }
-    print_number(out, *last, b'\n')
-}
-
-// Prints a number and the byte that stands after it.
-fn print_number<W: Write>(out: &mut W, n: u32, after: u8) -> io::Result<()> {
-    let mut text = [after; MOST_DIGITS + 1];
-    let start = itoa::write_digits(u64::from(n), &mut text, MOST_DIGITS);
-    out.write_all(&text[start..])
+    writeln!(out, "{last}")
 }
 
 // A number for a whole table, in which every number of it counts.
