@@ -30,7 +30,8 @@ pub(crate) struct Case<'a> {
 }
 
 impl<'a> Case<'a> {
-    // Writes the source into lent room, as much of it as there is room for: the piece once, and then as much again as stands there.
+    // Writes the source into lent room, as much of it as there is room for: the piece once, and then as much again as stands there, so
+    // that runs of bytes are copied and not one byte at a time.
     pub(crate) fn source<'r>(self, room: &'r mut [u8]) -> &'r [u8] {
         let size = self.piece.len().saturating_mul(self.times).min(room.len());
         let source = &mut room[..size];
