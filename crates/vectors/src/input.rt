@@ -30,13 +30,19 @@ pub(crate) struct Case<'a> {
 }
 
 impl<'a> Case<'a> {
-    // Writes the source into lent room, as much of it as there is room for.
+    // Writes the source into lent room, as much of it as there is room for: the piece once, and then as much again as stands there, so
+    // that runs of bytes are copied and not one byte at a time.
     pub(crate) fn source<'r>(self, room: &'r mut [u8]) -> &'r [u8] {
         let size = self.piece.len().saturating_mul(self.times).min(room.len());
-        for (to, from) in room.iter_mut().zip(self.piece.iter().cycle().take(size)) {
-            *to = *from;
+        let source = &mut room[..size];
+        let mut done = self.piece.len().min(size);
+        source[..done].copy_from_slice(&self.piece[..done]);
+        while done < size {
+            let more = done.min(size - done);
+            source.copy_within(..more, done);
+            done += more;
         }
-        &room[..size]
+        source
     }
 }
 

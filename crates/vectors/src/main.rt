@@ -2,12 +2,14 @@
 #![tactic(auto)]
 
 mod input;
+mod output;
 mod table;
 
 use input::{Case, Cases, SOURCE_ROOM, TOKENS_ROOM, TREE_ROOM};
 use nurl::Answer;
+use output::Page;
 use std::io;
-use std::io::{Cursor, Write};
+use std::io::Write;
 use table::Layout;
 
 // The two tables: the numbers in a row, and the first number before a case.
@@ -24,8 +26,8 @@ const TREE: Layout = Layout {
 // The most bytes of standard input that are read.
 const TEXT_ROOM: usize = 1400000;
 
-// Room for what a case prints: two tables, each of at most 12,000 numbers of up to ten digits and a byte after them, and four lines.
-const PAGE_ROOM: usize = 265000;
+// The most bytes that are written at once.
+const PAGE_ROOM: usize = 65536;
 
 // Prints an answer.
 fn print_answer<W: Write>(out: &mut W, answer: Answer) -> io::Result<()> {
@@ -55,12 +57,6 @@ fn run<W: Write>(
     TREE.print(out, tree)
 }
 
-// What has been written to lent room.
-fn written<'a>(room: &'a Cursor<&mut [u8]>) -> &'a [u8] {
-    let all = room.get_ref();
-    &all[..(room.position() as usize).min(all.len())]
-}
-
 fn main(rt: HostRuntime) -> io::Result<()> {
     let mut text = [0; TEXT_ROOM];
     let mut source = [0; SOURCE_ROOM];
@@ -69,10 +65,9 @@ fn main(rt: HostRuntime) -> io::Result<()> {
     let mut page = [0; PAGE_ROOM];
     let text = text.as_mut_slice();
     let size = input::read_full(&mut rt.stdin(), text)?;
+    let mut page = Page::new(&rt, page.as_mut_slice());
     for case in Cases::new(&text[..size]) {
-        let mut page = Cursor::new(page.as_mut_slice());
         run(case, &mut source, &mut tokens, &mut tree, &mut page)?;
-        rt.write_all(written(&page))?;
     }
-    Ok(())
+    page.flush()
 }
