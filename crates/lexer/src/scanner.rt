@@ -57,7 +57,7 @@ impl Scanner<'_> {
         self.ident(at, next)
     }
 
-    // The number at `at`, where a digit stands. With numbers read by `lexemes::digits_at`, long ones take 72 % more instructions.
+    // The number at `at`, where a digit stands. With numbers read by `lexemes::digits_at`, long ones take 48 % more instructions.
     fn digits(&self, at: usize) -> Lexeme
         requires bounded { Bounded self.now.source.now at }
         requires digit { is_digit (get_or self.now.source.now at 0) ≡ true }
